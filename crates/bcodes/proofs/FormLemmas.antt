@@ -1,9 +1,11 @@
 -- The definitions at each form of value.
-use Rattle.std.proofs.Common.{◌≡◌, ℕ, ◌+◌, List, [], ◌∷◌, ◌++◌, length, take, map, ℤ, refl, sym, ap, ◌∙◌, arith, add-zero}
+use Rattle.std.proofs.Common.{◌≡◌, ℕ, ◌+◌, List, [], ◌∷◌, ◌++◌, length, take, map, nat_lt, ◌*◌, ◌/◌, ℤ, refl, ap, arith}
+use Rattle.std.specs.List.{filter}
+use Rattle.bcodes.specs.declared.hit.Hit.{Hit}
 use Rattle.bcodes.specs.Hits.{in_order}
 use Rattle.bcodes.specs.declared.map_name.MapName.{MapName}
 use Rattle.bcodes.specs.Value.{CodeList, Row, Inner, Flat, Bare, IdMap, numbered, load_of}
-use Rattle.bcodes.specs.Answers.{best, hits, looked, hit_of, outer, after_add, paired}
+use Rattle.bcodes.specs.Answers.{best, within, hits, looked, hit_of, outer, after_add, paired}
 use Rattle.bcodes.proofs.NumberedLemmas.{length-numbered}
 
 pub best_flat : (v : CodeList) (q : List ℕ) (k : ℕ) → best (Bare (Flat v)) q k ≡ take k (in_order (map (hit_of q) (numbered 0 v.codes)))
@@ -13,6 +15,13 @@ best_flat v q k = refl
 pub looked_flat : (v : CodeList) (q : List ℕ) → looked (Bare (Flat v)) q ≡ length v.codes
 unfolding looked
 looked_flat v q = omega (arith, length-numbered 0 v.codes)
+
+pub within_flat : (v : CodeList) (q : List ℕ) (radius : ℕ) → within (Bare (Flat v)) q radius ≡ filter (λ (h : Hit). nat_lt h.distance radius) (in_order (map (hit_of q) (numbered 0 v.codes)))
+unfolding within hits
+within_flat v q radius = refl
+
+pub load_flat : (v : CodeList) → load_of (Bare (Flat v)) ≡ length v.codes * (v.dim / 8 + 16)
+load_flat v = let e : v.dim / 8 + 16 + 64 * 0 ≡ v.dim / 8 + 16 = omega arith in rw e (omega arith)
 
 -- the codes of rows made of labels and codes
 pub codes-paired : (ls : List ℤ) (cs : List (List ℕ)) → length ls ≡ length cs → map (λ (row : Row). row.code) (paired ls cs) ≡ cs

@@ -1,9 +1,8 @@
 -- Lemmas on marks.
-use Rattle.std.proofs.Common.{◌≡◌, ℕ, ◌+◌, ◌-◌, ◌<◌, ◌≤◌, Bool, true, false, ◌||◌, ◌&&◌, nat_eq, nat_le, nat_lt, List, length, get_or, refl, sym, ap, ◌∙◌, arith, rules, eq-eqb}
-use Rattle.std.proofs.lemmas.Bool.Decides.{nat_tests}
+use Rattle.std.proofs.Common.{◌≡◌, ℕ, ◌-◌, ◌||◌, nat_eq, nat_le, List, length, refl, arith}
 use Rattle.bcodes.specs.declared.hit.Hit.{Hit}
-use Rattle.bcodes.specs.Value.{IndexValue, count_of}
-use Rattle.bcodes.specs.Answers.{best, looked, probed_rows, bound_of, fixed_of}
+use Rattle.bcodes.specs.Value.{IndexValue}
+use Rattle.bcodes.specs.Answers.{best, looked, probed_rows}
 use Rattle.bcodes.specs.Marks.{AreNumbers, probes_all, range_mark, search_mark, is_full_below}
 
 -- whether all rows were probed, by the numbers

@@ -1,10 +1,10 @@
 -- Which rows a query probes, and what it is answered.
-use Rattle.std.specs.Prelude.{ℕ, zero, suc, ◌+◌, ◌*◌, ◌≤◌, ℤ, pos, nat_abs, List, [], ◌∷◌, ◌++◌, length, map, take, min, Bool, true, false, ◌||◌, nat_eq, nat_le, nat_lt, slice_index_or}
-use Rattle.std.specs.List.{filter, list_any, zip}
+use Rattle.std.specs.Prelude.{ℕ, zero, suc, ◌+◌, ◌*◌, ℤ, pos, nat_abs, List, [], ◌∷◌, ◌++◌, length, map, take, min, Bool, false, ◌||◌, nat_eq, nat_le, nat_lt, slice_index_or}
+use Rattle.std.specs.List.{filter, list_any}
 use Rattle.bcodes.specs.declared.hit.Hit.{Hit}
 use Rattle.bcodes.specs.Bits.{dist, dist_between}
 use Rattle.bcodes.specs.Hits.{in_order}
-use Rattle.bcodes.specs.Value.{CodeList, Row, ListRow, IvfValue, HashValue, MultiValue, Inner, Flat, Ivf, Hash, Multi, IndexValue, Bare, IdMap, inner_of, numbered, row_of, rows_of, count_of, count_of_inner}
+use Rattle.bcodes.specs.Value.{Row, IvfValue, Inner, Flat, Ivf, Hash, Multi, IndexValue, Bare, IdMap, inner_of, numbered, row_of, rows_of, count_of_inner}
 
 -- how far a row is from a query
 abbrev pub hit_of : List ℕ → Row → Hit

@@ -1,5 +1,5 @@
 -- Whether an answer is marked as that of a full scan.
-use Rattle.std.specs.Prelude.{◌≡◌, ℕ, pos, ◌-◌, List, length, Bool, ◌&&◌, ◌||◌, nat_eq, nat_le, nat_lt, slice_index_or}
+use Rattle.std.specs.Prelude.{◌≡◌, ℕ, ◌-◌, List, length, Bool, ◌&&◌, ◌||◌, nat_eq, nat_le, nat_lt, slice_index_or}
 use Rattle.bcodes.specs.declared.hit.Hit.{Hit}
 use Rattle.bcodes.specs.Hits.{no_hit}
 use Rattle.bcodes.specs.Value.{IndexValue, count_of}

@@ -34,3 +34,6 @@ pub use std::alloc::AllocError as Want;
 /// The most that an index may weigh: for each row the bytes of a code, 16, and 64 for each map from keys to rows, and
 /// for each centroid the bytes of a code and 16.
 pub const LOAD_LIMIT: u64 = 1_073_741_824;
+
+#[cfg(test)]
+mod tests;
