@@ -1,0 +1,122 @@
+-- Lemmas on labels and the bytes of codes as rows.
+use Rattle.std.proofs.Common.{◌≡◌, ℕ, zero, suc, ◌+◌, ◌-◌, ◌*◌, ◌<◌, ◌≤◌, ◌^◌, ℤ, pos, FitsSigned, w64, get_or, List, [], ◌∷◌, ◌++◌, length, take, drop, map, refl, sym, ap, ◌∙◌, arith, length-drop, length-take}
+use Rattle.std.proofs.lemmas.List.{get_or_default, get_or-take, get_or-drop, take-append-le, drop-append-le, take_all, take-take, drop-take, drop-drop}
+use Rattle.std.proofs.Math.Nat.{mul-le-mul_right}
+use Rattle.bcodes.specs.Value.{Row, HasBytes}
+use Rattle.code_pool.specs.Lists.{rows_in, label_of, code_in, no_row, IsRun, IsPart, IsPoolRow}
+
+pub length-rows_in : (size : ℕ) (ls : List ℤ) (bs : List ℕ) → length (rows_in size ls bs) ≡ length ls
+unfolding rows_in
+length-rows_in size [] bs = refl
+length-rows_in size (l ∷ ls) bs = ap suc (length-rows_in size ls (drop size bs))
+
+pub map-rows_in : (size : ℕ) (ls : List ℤ) (bs : List ℕ) → map label_of (rows_in size ls bs) ≡ ls
+unfolding rows_in
+map-rows_in size [] bs = refl
+map-rows_in size (l ∷ ls) bs = ap (λ (ms : List ℤ). l ∷ ms) (map-rows_in size ls (drop size bs))
+
+-- one more label and one more code are one more row
+pub rows_in-push : (size : ℕ) (ls : List ℤ) (bs : List ℕ) (l : ℤ) (code : List ℕ) → length bs ≡ length ls * size → length code ≡ size
+    → rows_in size (ls ++ l ∷ []) (bs ++ code) ≡ rows_in size ls bs ++ (record { label = l; code = code }) ∷ []
+unfolding rows_in
+rows_in-push size [] [] l code h k = ap (λ (c : List ℕ). (record { label = l; code = c }) ∷ []) (take_all size code (omega arith))
+rows_in-push size [] (b ∷ bs) l code h k = absurd (omega arith)
+rows_in-push size (m ∷ ls) bs l code h k =
+    let fits : size ≤ length bs = grind arith in
+    let left : length (drop size bs) ≡ length ls * size = grind (arith, length-drop) in
+    rw (take-append-le size bs code fits, drop-append-le size bs code fits)
+    (ap (λ (rs : List Row). (record { label = m; code = take size bs }) ∷ rs) (rows_in-push size ls (drop size bs) l code left k))
+
+drop-rows_in : (size from : ℕ) (ls : List ℤ) (bs : List ℕ) → drop from (rows_in size ls bs) ≡ rows_in size (drop from ls) (drop (from * size) bs)
+unfolding rows_in
+drop-rows_in size zero ls bs = let z : 0 * size ≡ 0 = omega arith in rw z refl
+drop-rows_in size (suc from) [] bs = refl
+drop-rows_in size (suc from) (l ∷ ls) bs =
+    drop-rows_in size from ls (drop size bs) ∙ ap (rows_in size (drop from ls)) (drop-drop (from * size) size bs ∙ ap (λ (k : ℕ). drop k bs) (grind arith))
+
+take-rows_in : (size n : ℕ) (ls : List ℤ) (bs : List ℕ) → take n (rows_in size ls bs) ≡ rows_in size (take n ls) (take (n * size) bs)
+unfolding rows_in
+take-rows_in size zero ls bs = refl
+take-rows_in size (suc n) [] bs = refl
+take-rows_in size (suc n) (l ∷ ls) bs =
+    let e : suc n * size ≡ size + n * size = grind arith in
+    rw (e, take-take size (size + n * size) bs (omega arith), drop-take size (n * size) bs)
+    (ap (λ (rs : List Row). (record { label = l; code = take size bs }) ∷ rs) (take-rows_in size n ls (drop size bs)))
+
+-- n rows from `from` on are a run
+pub run_is : (size from n : ℕ) (ls : List ℤ) (bs : List ℕ) → length bs ≡ length ls * size → from + n ≤ length ls → 1 ≤ n → n ≤ 65536
+    → IsRun (rows_in size ls bs) from size (take n (drop from ls)) (take (n * size) (drop (from * size) bs))
+run_is size from n ls bs whole within some most =
+    let count : length (take n (drop from ls)) ≡ n = omega (arith, length-take n (drop from ls), length-drop from ls) in
+    let ends : (from + n) * size ≤ length ls * size = mul-le-mul_right size within in
+    let apart : (from + n) * size ≡ from * size + n * size = grind arith in
+    record {
+      some = omega arith;
+      most = omega arith;
+      within = omega (arith, length-rows_in size ls bs);
+      size = rw count (omega (arith, length-take (n * size) (drop (from * size) bs), length-drop (from * size) bs));
+      rows = rw (count, drop-rows_in size from ls bs, take-rows_in size n (drop from ls) (drop (from * size) bs)) refl;
+    }
+
+-- the elements from `from` on are a part of all
+pub part_is : (from : ℕ) (ls : List ℤ) → from < length ls → IsPart ls from (take (length ls - from) (drop from ls))
+part_is from ls within =
+    let count : length (take (length ls - from) (drop from ls)) ≡ length ls - from = omega (arith, length-take (length ls - from) (drop from ls), length-drop from ls) in
+    record {
+      some = omega arith;
+      within = omega arith;
+      labels = rw count refl;
+    }
+
+-- the row at a place
+pub get-rows_in : (size : ℕ) (ls : List ℤ) (bs : List ℕ) (i : ℕ) (d : Row) → i < length ls
+    → get_or (rows_in size ls bs) i d ≡ record { label = get_or ls i (pos 0); code = take size (drop (i * size) bs) }
+unfolding rows_in
+get-rows_in size [] bs i d h = absurd (omega arith)
+get-rows_in size (l ∷ ls) bs zero d h = let z : 0 * size ≡ 0 = omega arith in rw z refl
+get-rows_in size (l ∷ ls) bs (suc i) d h =
+    get-rows_in size ls (drop size bs) i d (omega arith)
+    ∙ ap (λ (c : List ℕ). record { label = get_or ls i (pos 0); code = take size c }) (drop-drop (i * size) size bs ∙ ap (λ (k : ℕ). drop k bs) (grind arith))
+
+-- the code of the row at a place, by any number that is the code size
+pub code_in_is : (size part i : ℕ) (ls : List ℤ) (bs : List ℕ) → part ≡ size → i < length ls → take (i * part + part - i * part) (drop (i * part) bs) ≡ code_in size ls bs i
+code_in_is size part i ls bs e h =
+    let apart : i * size + size - i * size ≡ size = omega arith in
+    ap (λ (n : ℕ). take (i * n + n - i * n) (drop (i * n) bs)) e
+    ∙ ap (λ (n : ℕ). take n (drop (i * size) bs)) apart
+    ∙ sym (ap (λ (row : Row). row.code) (get-rows_in size ls bs i no_row h))
+
+-- one label alone
+pub one_label : (ls : List ℤ) (i : ℕ) (d : ℤ) → i < length ls → take 1 (drop i ls) ≡ get_or ls i d ∷ []
+one_label [] i d h = absurd (omega arith)
+one_label (l ∷ ls) zero d h = refl
+one_label (l ∷ ls) (suc i) d h = one_label ls i d (omega arith)
+
+HasBytes-take : (size : ℕ) (bs : List ℕ) → size ≤ length bs → ((i : ℕ) → get_or bs i 0 < 2 ^ 8) → HasBytes size (take size bs)
+HasBytes-take size bs fits small = record {
+  size = omega (arith, length-take size bs);
+  bytes = λ k e low.
+      let here : k < size = omega (arith, length-take size bs) in
+      let inside : k < length bs = omega arith in
+      rw (get_or-take size bs k e here, get_or_default bs k e 0 inside) (small k);
+}
+
+-- labels of 64 bits and bytes are rows of a pool
+pub IsPoolRow-rows_in : (size : ℕ) (ls : List ℤ) (bs : List ℕ) → length bs ≡ length ls * size → ((i : ℕ) → get_or bs i 0 < 2 ^ 8) → ((i : ℕ) → i < length ls → FitsSigned w64 (get_or ls i (pos 0)))
+    → (k : ℕ) (d : Row) → k < length (rows_in size ls bs) → IsPoolRow size (get_or (rows_in size ls bs) k d)
+unfolding rows_in
+IsPoolRow-rows_in size [] bs whole small fits k d low = absurd (omega arith)
+IsPoolRow-rows_in size (l ∷ ls) bs whole small fits zero d low =
+    let enough : size ≤ length bs = grind arith in
+    record { label = fits 0 (omega arith); code = HasBytes-take size bs enough small }
+IsPoolRow-rows_in size (l ∷ ls) bs whole small fits (suc k) d low =
+    let left : length (drop size bs) ≡ length ls * size = grind (arith, length-drop) in
+    IsPoolRow-rows_in size ls (drop size bs) left (λ i. rw (get_or-drop size bs i 0) (small (size + i))) (λ i h. fits (suc i) (omega arith)) k d (omega arith)
+
+-- one more code in the room that there is
+pub room_for_one : (size spare capacity bytes : ℕ) → 0 < spare → bytes + spare * size ≤ capacity → (bytes + size) + (spare - 1) * size ≤ capacity
+room_for_one size zero capacity bytes h fits = absurd (omega arith)
+room_for_one size (suc spare) capacity bytes h fits =
+    let e : suc spare - 1 ≡ spare = omega arith in
+    let f : suc spare * size ≡ size + spare * size = grind arith in
+    rw e (omega arith)

@@ -1,0 +1,16 @@
+pub mod AddLemmas
+pub mod AppliedLemmas
+pub mod CommandLemmas
+pub mod GrownLemmas
+pub mod KeptLemmas
+pub mod LineLemmas
+pub mod MachineLemmas
+pub mod MeterLemmas
+pub mod ProgressLemmas
+pub mod ReachedLemmas
+pub mod RunLemmas
+pub mod SentLemmas
+pub mod StopLemmas
+pub mod StoppedLemmas
+pub mod WordLemmas
+pub mod WordsLeft

@@ -1,0 +1,14 @@
+pub mod Answer
+pub mod Applied
+pub mod Command
+pub mod Ended
+pub mod Faults
+pub mod Inside
+pub mod Lines
+pub mod Machine
+pub mod Parsed
+pub mod Progress
+pub mod Runs
+pub mod Sent
+pub mod Statuses
+pub mod Stopped

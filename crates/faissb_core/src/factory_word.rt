@@ -1,0 +1,6 @@
+/// Why a factory text is refused.
+#[derive(Clone, Copy, Debug, PartialEq, Eq)]
+pub enum FactoryWord {
+    /// It names no kind of index.
+    Unknown,
+}

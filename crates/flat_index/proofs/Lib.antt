@@ -1,0 +1,4 @@
+pub mod AddLemmas
+pub mod LegalFlat
+pub mod ScanLemmas
+pub mod SearchLemmas

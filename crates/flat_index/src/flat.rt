@@ -1,0 +1,190 @@
+ghost use Rattle.std.specs.Prelude.{◌≡◌, ◌+◌, ◌*◌, ◌/◌, ◌^◌, ◌<◌, ◌≤◌, ◌⊎◌, [], ◌++◌, length, map, min, nat_lt, slice_index_or, take, vec_len, IfOk};
+ghost use Rattle.std.specs.List.{filter};
+ghost use Rattle.bcodes.specs.Hits.{in_order};
+ghost use Rattle.bcodes.specs.Ranges.{raised};
+ghost use Rattle.bcodes.specs.Value.{Flat as FlatForm, Bare, numbered};
+ghost use Rattle.bcodes.specs.Answers.{hit_of};
+ghost use Rattle.code_pool.specs.Lists.{list_at, rows_in};
+
+use bcodes::{Addable, BinaryIndex, Codes, Dim, Hits, Ledger, Meter, Want};
+use code_pool::{Pool, Run};
+use hit_lists::{BestK, RangeHits};
+use kernel_table::{Kernel, Prepared};
+use std::alloc::Global;
+use std::marker::Model;
+
+/// An index of codes under their positions 0, 1, 2 and so on, Faiss's `IndexBinaryFlat`. Every query compares every
+/// code. The codes stand on one list of a pool, and are read under the caller's meter alone.
+#[derive(Drop)]
+pub struct Flat<L: Ledger> {
+    dim: Dim,
+    pool: Pool<L>,
+}
+
+impl<L: Ledger> Model for Flat<L> {
+    ghost use Rattle.bcodes.specs.Value.{CodeList};
+    ghost use Rattle.flat_index.specs.Inside.{codes_in, IsFlat};
+
+    ghost Value = { CodeList };
+
+    ghost view = { λ f. record { dim = f.dim.bits; codes = codes_in f.pool } };
+
+    ghost invariant = { λ f. IsFlat f.dim.bits f.pool };
+}
+
+impl<L: Ledger> Flat<L> {
+    /// An index without codes.
+    pub fn new(alloc: Global, dim: Dim) -> Result<Flat<L>, Want>
+        ensures { IfOk result (λ f. f ≡ record { dim = dim.bits; codes = [] }) }
+    {
+        let mut pool = Pool::new(alloc, dim.bytes());
+        pool.open_list()?;
+        Ok(Flat { dim, pool })
+    }
+
+    /// The code at a position. `lent` of the meter rises by 1.
+    pub fn code(&self, p: u64, meter: &mut Meter<L>) -> &[u8]
+        requires { p < length self.now.codes }
+        ensures code { result.now ≡ slice_index_or self.now.codes p [] }
+        ensures lent { meter.new ≡ record meter.old { lent = raised meter.old.lent 1 } }
+    {
+        self.pool.lend_one(0, p as usize, meter).codes
+    }
+}
+
+impl<L: Ledger> BinaryIndex for Flat<L> {
+    type Led = L;
+
+    ghost value = { λ f. Bare (FlatForm f) };
+
+    fn dim(&self) -> Dim {
+        let _count = self.pool.len(0);
+        self.dim
+    }
+
+    fn count(&self) -> u64 {
+        self.pool.len(0) as u64
+    }
+
+    fn trained(&self) -> bool {
+        true
+    }
+
+    fn fixed(&self) -> u64 {
+        0
+    }
+
+    fn bound(&self) -> u64 {
+        0
+    }
+
+    fn search(&self, alloc: Global, q: &[u8], k: u32, meter: &mut Meter<L>) -> Result<Hits, Want> {
+        let count = self.pool.len(0);
+        let kernel = Prepared::new(self.dim, q);
+        let mut best = BestK::new(alloc, self.dim, k, count as u64)?;
+        let mut distances = room_for_run(alloc, count)?;
+        let mut at = 0;
+        while at < count {
+            let run = self.pool.lend(0, at, meter);
+            at += run.labels.len();
+            offer_run(&mut best, &kernel, run, &mut distances);
+        }
+        Ok(best.into_hits())
+    }
+
+    fn range(
+        &self,
+        alloc: Global,
+        q: &[u8],
+        radius: u32,
+        meter: &mut Meter<L>,
+    ) -> Result<Hits, Want> {
+        let count = self.pool.len(0);
+        let kernel = Prepared::new(self.dim, q);
+        let mut found = RangeHits::new(alloc);
+        let mut distances = room_for_run(alloc, count)?;
+        let mut at = 0;
+        while at < count {
+            let run = self.pool.lend(0, at, meter);
+            at += run.labels.len();
+            found.reserve(run.labels.len())?;
+            offer_run_below(&mut found, radius, &kernel, run, &mut distances);
+        }
+        Ok(found.into_hits())
+    }
+}
+
+impl<L: Ledger> Addable for Flat<L> {
+    fn takes_ids(&self) -> bool {
+        false
+    }
+
+    fn add_all(
+        &mut self,
+        labels: &[i64],
+        codes: &Codes,
+        _meter: &mut Meter<L>,
+    ) -> Result<(), Want> {
+        let count = self.pool.len(0);
+        self.pool.reserve(0, codes.len())?;
+        append_all(&mut self.pool, count, codes);
+        Ok(())
+    }
+}
+
+// Room for the distances of one run of a list of `count` rows.
+fn room_for_run(alloc: Global, count: usize) -> Result<Vec<u32>, Want>
+    ensures { IfOk result (λ room. vec_len room ≡ min count 65536) }
+{
+    vec![in alloc; 0u32; count.min(65536)]
+}
+
+// Offers each row of a run. The distances are written into the front of `distances`.
+fn offer_run(best: &mut BestK, kernel: &Prepared<'_>, run: Run<'_>, distances: &mut [u32])
+    requires bits { best.old.bits ≡ 8 * length kernel.now }
+    requires whole { length run.codes.now ≡ length run.labels.now * length kernel.now }
+    requires written { length run.labels.now ≤ length distances.old }
+    requires room { (length best.old.items + length run.labels.now ≤ best.old.most) ⊎ (length best.old.items ≡ best.old.k) }
+    ensures items { best.new.items ≡ take best.old.k (in_order (best.old.items ++ map (hit_of kernel.now) (rows_in (length kernel.now) run.entry.labels.now run.entry.codes.now))) }
+    ensures k { best.new.k ≡ best.old.k }
+    ensures most { best.new.most ≡ best.old.most }
+    ensures bits { best.new.bits ≡ best.old.bits }
+{
+    let part = &mut distances[..run.labels.len()];
+    kernel.scan(run.codes, part);
+    best.offer_all(run.labels, part);
+}
+
+// Adds the rows of a run whose distance is below the radius.
+fn offer_run_below(
+    found: &mut RangeHits,
+    radius: u32,
+    kernel: &Prepared<'_>,
+    run: Run<'_>,
+    distances: &mut [u32],
+)
+    requires whole { length run.codes.now ≡ length run.labels.now * length kernel.now }
+    requires written { length run.labels.now ≤ length distances.old }
+    requires room { length run.labels.now ≤ found.old.spare }
+    ensures { found.new.items ≡ found.old.items ++ filter (λ h. nat_lt h.distance radius) (map (hit_of kernel.now) (rows_in (length kernel.now) run.entry.labels.now run.entry.codes.now)) }
+{
+    let part = &mut distances[..run.labels.len()];
+    kernel.scan(run.codes, part);
+    found.offer_below(radius, run.labels, part);
+}
+
+// Appends codes to list 0, which holds `count`, under their positions.
+fn append_all<L: Ledger>(pool: &mut Pool<L>, count: usize, codes: &Codes)
+    requires one { 0 < length pool.old.lists }
+    requires count { count ≡ length (list_at pool.old 0).rows }
+    requires few { count + length codes.now.codes < 2 ^ 31 }
+    requires size { pool.old.code_size ≡ codes.now.dim / 8 }
+    requires room { length codes.now.codes ≤ (list_at pool.old 0).spare }
+    ensures rows { (list_at pool.new 0).rows ≡ (list_at pool.old 0).rows ++ numbered count codes.now.codes }
+    ensures lists { length pool.new.lists ≡ length pool.old.lists }
+    ensures size { pool.new.code_size ≡ pool.old.code_size }
+{
+    for i in 0..codes.len() {
+        pool.push(0, (count + i) as i64, codes.get(i));
+    }
+}

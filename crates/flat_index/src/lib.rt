@@ -1,0 +1,6 @@
+//! The index that compares a query with every code, Faiss's `IndexBinaryFlat`.
+#![tactic(auto)]
+
+mod flat;
+
+pub use flat::Flat;

@@ -1,0 +1,17 @@
+//! Hamming distances of codes to one query, by kernels that hold the query as words of its code
+//! size. They follow Faiss's classes `HammingComputer..` of `faiss/utils/hamming_distance`.
+#![tactic(auto)]
+
+mod general;
+mod half;
+mod kernel;
+#[cfg(test)]
+mod tests;
+mod twenty;
+mod words;
+
+pub use general::General;
+pub use half::Half;
+pub use kernel::Kernel;
+pub use twenty::Twenty;
+pub use words::Words;

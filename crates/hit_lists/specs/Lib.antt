@@ -1,0 +1,2 @@
+pub mod BestHits
+pub mod Labelled

@@ -1,0 +1,11 @@
+//! The hits that a query keeps: the first k of those offered, or all of them in order.
+#![tactic(auto)]
+
+mod best_k;
+mod range_hits;
+
+pub use best_k::BestK;
+pub use range_hits::RangeHits;
+
+#[cfg(test)]
+mod tests;

@@ -1,0 +1,9 @@
+//! The distance kernel for each code size, behind one type.
+#![tactic(auto)]
+
+mod prepared;
+#[cfg(test)]
+mod tests;
+
+pub use hamming_kernels::Kernel;
+pub use prepared::Prepared;
