@@ -4,7 +4,9 @@ pub mod CommandLemmas
 pub mod GrownLemmas
 pub mod KeptLemmas
 pub mod LineLemmas
+pub mod LegalLemmas
 pub mod MachineLemmas
+pub mod MarkedLemmas
 pub mod MeterLemmas
 pub mod ProgressLemmas
 pub mod ReachedLemmas

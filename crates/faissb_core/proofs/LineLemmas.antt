@@ -10,7 +10,7 @@ use Rattle.faissb_core.specs.Runs.{ended_lines, onto_any}
 abbrev pub IsPart : List ℕ → Type 0
 IsPart raw = ByRecursion (λ b. b ≢ 10) raw
 
-plain_test : (b : ℕ) → b ≢ 10 → eqb b 10 ≡ false
+pub plain_test : (b : ℕ) → b ≢ 10 → eqb b 10 ≡ false
 plain_test b ne = grind (arith, nat_tests)
 
 pub IsPart-push : (raw : List ℕ) (b : ℕ) → IsPart raw → b ≢ 10 → IsPart (raw ++ b ∷ [])

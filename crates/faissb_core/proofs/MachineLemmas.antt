@@ -1,10 +1,10 @@
 -- The plain machine over lines that go on.
-use Rattle.std.proofs.Common.{◌≡◌, ℕ, ◌+◌, ◌≤◌, List, [], ◌∷◌, ◌++◌, Bool, true, false, ◌||◌, length, take, drop, ltb, refl, sym, ◌∙◌, ap, inl, inr, arith, length-append}
+use Rattle.std.proofs.Common.{◌≡◌, ℕ, ◌+◌, ◌≤◌, List, [], ◌∷◌, ◌++◌, Bool, true, ◌||◌, length, take, drop, ltb, refl, sym, ◌∙◌, ap, inl, inr, arith, length-append}
 use Rattle.std.proofs.lemmas.Bool.Decides.{nat_tests}
 use Rattle.std.proofs.lemmas.Bool.{cases_lt}
+use Rattle.std.proofs.Math.Bool.{or_assoc}
 use Rattle.std.proofs.lemmas.List.{append_assoc, take_all, length-take}
 use Rattle.std.proofs.Math.Seq.{take-add}
-use Rattle.std.specs.List.{list_any}
 use Rattle.outside.specs.Contents.{Files}
 use Rattle.faissb_core.specs.declared.TheConstants.{LINE_KEPT, LINE_LIMIT}
 use Rattle.faissb_core.specs.Command.{Line, line_of, is_load, is_save}
@@ -33,18 +33,6 @@ is_load-kept line = refl
 
 pub is_save-kept : (line : List ℕ) → is_save (take LINE_KEPT line) ≡ is_save line
 is_save-kept line = refl
-
-pub or-false : (a : Bool) → (a || false) ≡ a
-or-false true = refl
-or-false false = refl
-
-pub or_assoc : (a b d : Bool) → ((a || b) || d) ≡ (a || (b || d))
-or_assoc true b d = refl
-or_assoc false b d = refl
-
-pub any-append : {A : Type 0} (test : A → Bool) (xs ys : List A) → list_any test (xs ++ ys) ≡ (list_any test xs || list_any test ys)
-any-append test [] ys = refl
-any-append test (x ∷ xs) ys = ap (λ (v : Bool). test x || v) (any-append test xs ys) ∙ sym (or_assoc (test x) (list_any test xs) (list_any test ys))
 
 pub text-append : (state : State) (files : Files) (xs ys : List (List ℕ))
     → text_after state files (xs ++ ys) ≡ text_after state files xs ++ text_after (state_after state files xs) (files_after state files xs) ys

@@ -1,11 +1,11 @@
 -- Bytes in pieces.
 use Rattle.std.proofs.Common.{◌≡◌, ◌||◌, Some, None, is_some, ◌≢◌, ℕ, ◌≤◌, Option, List, [], ◌∷◌, ◌++◌, Bool, true, false, cond, eqb, length, take, All, refl, sym, ◌∙◌, ap, arith}
-use Rattle.std.proofs.lemmas.Bool.Decides.{nat_tests}
+use Rattle.std.proofs.Math.Bool.{or_assoc}
 use Rattle.std.proofs.lemmas.List.{append_assoc, append-nil, take_all, length-take}
 use Rattle.std.proofs.lemmas.List.Elements.{recursion_from_All}
-use Rattle.std.specs.List.{AllByRecursion as ByRecursion}
 use Rattle.faissb_core.specs.declared.TheConstants.{LINE_KEPT}
 use Rattle.faissb_core.proofs.KeptLemmas.{keep-keep}
+use Rattle.faissb_core.proofs.LineLemmas.{IsPart, plain_test}
 use Rattle.faissb_core.specs.Progress.{Progress, hold, end_line, end_text, feed, fed_text, fed_loads}
 use Rattle.faissb_core.specs.Command.{is_load}
 use Rattle.outside.specs.Contents.{Files, Contents, HasFiles, Fits}
@@ -18,10 +18,6 @@ feed-append p (b ∷ xs) ys = elim (eqb b 10) as (λ v. cond v (feed (end_line p
   | false ↦ feed-append (hold p (b ∷ [])) xs ys
 ]
 
-or_assoc : (a b d : Bool) → ((a || b) || d) ≡ (a || (b || d))
-or_assoc true b d = refl
-or_assoc false b d = refl
-
 pub fed_text-append : (p : Progress) (xs ys : List ℕ) → fed_text p (xs ++ ys) ≡ fed_text p xs ++ fed_text (feed p xs) ys
 fed_text-append p [] ys = refl
 fed_text-append p (b ∷ xs) ys = elim (eqb b 10) as (λ v. cond v (end_text p ++ fed_text (end_line p) (xs ++ ys)) (fed_text (hold p (b ∷ [])) (xs ++ ys)) ≡ cond v (end_text p ++ fed_text (end_line p) xs) (fed_text (hold p (b ∷ [])) xs) ++ fed_text (cond v (feed (end_line p) xs) (feed (hold p (b ∷ [])) xs)) ys) [
@@ -32,16 +28,13 @@ fed_text-append p (b ∷ xs) ys = elim (eqb b 10) as (λ v. cond v (end_text p +
 abbrev pub IsPlain : List ℕ → Type 0
 IsPlain bytes = All (λ b. b ≢ 10) bytes
 
-plain_test : (b : ℕ) → b ≢ 10 → eqb b 10 ≡ false
-plain_test b ne = grind (arith, nat_tests)
-
 hold-hold : (p : Progress) (xs ys : List ℕ) → hold (hold p xs) ys ≡ hold p (xs ++ ys)
 hold-hold p xs ys =
     ap (λ (l : List ℕ). let q : Progress = record { state = p.state; files = p.files; held = l; refused = p.refused } in q)
     (keep-keep LINE_KEPT (p.held ++ xs) ys ∙ ap (λ (l : List ℕ). take LINE_KEPT l) (append_assoc p.held xs ys))
 
 -- no line ends
-feed-plain_by : (p : Progress) (xs : List ℕ) → length p.held ≤ LINE_KEPT → ByRecursion (λ b. b ≢ 10) xs → feed p xs ≡ hold p xs
+feed-plain_by : (p : Progress) (xs : List ℕ) → length p.held ≤ LINE_KEPT → IsPart xs → feed p xs ≡ hold p xs
 feed-plain_by p [] short plain =
     ap (λ (l : List ℕ). let q : Progress = record { state = p.state; files = p.files; held = l; refused = p.refused } in q)
     (sym (ap (λ (l : List ℕ). take LINE_KEPT l) (append-nil p.held) ∙ take_all LINE_KEPT p.held short))
@@ -50,7 +43,7 @@ feed-plain_by p (b ∷ xs) short plain =
     ∙ feed-plain_by (hold p (b ∷ [])) xs (omega (arith, length-take LINE_KEPT (p.held ++ b ∷ []))) plain.1
     ∙ hold-hold p (b ∷ []) xs
 
-fed_text-plain_by : (p : Progress) (xs : List ℕ) → ByRecursion (λ b. b ≢ 10) xs → fed_text p xs ≡ []
+fed_text-plain_by : (p : Progress) (xs : List ℕ) → IsPart xs → fed_text p xs ≡ []
 fed_text-plain_by p [] plain = refl
 fed_text-plain_by p (b ∷ xs) plain =
     ap (λ (v : Bool). cond v (end_text p ++ fed_text (end_line p) xs) (fed_text (hold p (b ∷ [])) xs)) (plain_test b plain.0)
@@ -62,17 +55,6 @@ feed-plain p xs short plain = feed-plain_by p xs short (recursion_from_All (λ b
 pub fed_text-plain : (p : Progress) (xs : List ℕ) → IsPlain xs → fed_text p xs ≡ []
 fed_text-plain p xs plain = fed_text-plain_by p xs (recursion_from_All (λ b. b ≢ 10) xs plain)
 
--- a line ends
-pub feed-line : (p : Progress) (line more bytes : List ℕ) → length p.held ≤ LINE_KEPT → IsPlain line → bytes ≡ line ++ 10 ∷ more → feed (end_line (hold p line)) more ≡ feed p bytes
-feed-line p line more bytes short plain is =
-    sym (ap (λ (l : List ℕ). feed p l) is ∙ feed-append p line (10 ∷ more) ∙ ap (λ (q : Progress). feed q (10 ∷ more)) (feed-plain p line short plain))
-
-pub fed_text-line : (p : Progress) (line more bytes : List ℕ) → length p.held ≤ LINE_KEPT → IsPlain line → bytes ≡ line ++ 10 ∷ more → end_text (hold p line) ++ fed_text (end_line (hold p line)) more ≡ fed_text p bytes
-fed_text-line p line more bytes short plain is =
-    sym (ap (λ (l : List ℕ). fed_text p l) is ∙ fed_text-append p line (10 ∷ more)
-    ∙ ap (λ (l : List ℕ). l ++ fed_text (feed p line) (10 ∷ more)) (fed_text-plain p line plain)
-    ∙ ap (λ (q : Progress). fed_text q (10 ∷ more)) (feed-plain p line short plain))
-
 -- loads
 pub fed_loads-append : (p : Progress) (xs ys : List ℕ) → fed_loads p (xs ++ ys) ≡ (fed_loads p xs || fed_loads (feed p xs) ys)
 fed_loads-append p [] ys = refl
@@ -81,7 +63,7 @@ fed_loads-append p (b ∷ xs) ys = elim (eqb b 10) as (λ v. cond v (is_load p.h
   | false ↦ fed_loads-append (hold p (b ∷ [])) xs ys
 ]
 
-fed_loads-plain_by : (p : Progress) (xs : List ℕ) → ByRecursion (λ b. b ≢ 10) xs → fed_loads p xs ≡ false
+fed_loads-plain_by : (p : Progress) (xs : List ℕ) → IsPart xs → fed_loads p xs ≡ false
 fed_loads-plain_by p [] plain = refl
 fed_loads-plain_by p (b ∷ xs) plain =
     ap (λ (v : Bool). cond v (is_load p.held || fed_loads (end_line p) xs) (fed_loads (hold p (b ∷ [])) xs)) (plain_test b plain.0)
@@ -110,10 +92,6 @@ Fits-second files new None None a b c is tells has fits = (or_none a b (sym is �
 Fits-second files new None (Some d) a b c is tells has fits = absurd (false≢true (sym tells))
 Fits-second files new (Some d) None a b c is tells has fits = absurd (false≢true tells)
 Fits-second files new (Some d) (Some e) a b c is tells has fits = has
-
-pub Fits-none : (files : Files) (contents : Option Contents) (a : Bool) → a ≡ false → HasFiles files contents → Fits files contents a
-Fits-none files None a none has = none
-Fits-none files (Some d) a none has = has
 
 -- files that fit are those of the shelf
 pub HasFiles-fits : (files : Files) (contents : Option Contents) (a : Bool) → Fits files contents a → HasFiles files contents

@@ -1,8 +1,9 @@
 -- What is held byte by byte is what the plain machine has after the lines.
-use Rattle.std.proofs.Common.{◌≡◌, ◌≢◌, ℕ, List, [], ◌∷◌, ◌++◌, Bool, false, None, cond, eqb, ◌||◌, take, refl, sym, ◌∙◌, ap, subst, inl, inr, arith}
-use Rattle.std.proofs.lemmas.Bool.Decides.{nat_tests}
+use Rattle.std.proofs.Common.{◌≡◌, ℕ, List, [], ◌∷◌, ◌++◌, Bool, false, None, cond, ◌||◌, take, refl, sym, ◌∙◌, ap, subst, inl, inr}
+use Rattle.std.proofs.Math.Bool.{or-false, or_assoc}
 use Rattle.std.proofs.lemmas.Bool.{cases_eq}
 use Rattle.std.proofs.lemmas.List.{append_assoc, append-nil}
+use Rattle.std.proofs.lemmas.List.Folds.{list_any-append}
 use Rattle.std.specs.List.{list_any}
 use Rattle.outside.specs.Contents.{Files}
 use Rattle.faissb_core.specs.declared.TheConstants.{LINE_KEPT}
@@ -13,11 +14,8 @@ use Rattle.faissb_core.specs.Machine.{State, Step, step, state_after, files_afte
 use Rattle.faissb_core.specs.Runs.{ended_lines, loads}
 use Rattle.faissb_core.specs.Progress.{Progress, nothing_held, beside, hold, end_line, end_text, feed, fed_text, fed_loads, if_none, last, last_text}
 use Rattle.faissb_core.proofs.KeptLemmas.{keep-keep}
-use Rattle.faissb_core.proofs.LineLemmas.{IsPart, IsPart-push, IsPart-unended, unended, lines-append, lines-part, ended-line, ended-part}
-use Rattle.faissb_core.proofs.MachineLemmas.{step-kept, is_load-kept, or-false, or_assoc, any-append, text-append, files-append, refused-append}
-
-plain_test : (b : ℕ) → b ≢ 10 → eqb b 10 ≡ false
-plain_test b ne = grind (arith, nat_tests)
+use Rattle.faissb_core.proofs.LineLemmas.{IsPart, plain_test, IsPart-push, IsPart-unended, unended, lines-append, lines-part, ended-line, ended-part}
+use Rattle.faissb_core.proofs.MachineLemmas.{step-kept, is_load-kept, text-append, files-append, refused-append}
 
 -- where a run is that was at a state and files, and has gone on by the whole bytes
 pub record Reached (state : State) (files : Files) (refused : Bool) (whole text : List ℕ) (looks : Bool) (end : Progress) : Type 0 where
@@ -159,5 +157,5 @@ whole files bytes =
       refused_is = end.refused_is
           ∙ (λ i. at.refused_is i || refused_after (at.state_is i) (at.files_is i) rest)
           ∙ sym (refused-append None files ended rest) ∙ sym (ap (λ (ls : List (List ℕ)). refused_after None files ls) all);
-      loads_is = ap (λ (ls : List (List ℕ)). list_any is_load ls) all ∙ any-append is_load ended rest ∙ sym (λ i. at.loads_is i || end.loads_is i);
+      loads_is = ap (λ (ls : List (List ℕ)). list_any is_load ls) all ∙ list_any-append is_load ended rest ∙ sym (λ i. at.loads_is i || end.loads_is i);
     }

@@ -2,7 +2,7 @@
 use Rattle.std.proofs.Common.{◌≡◌, ◌⊎◌, inl, inr, ℕ, ◌≤◌, List, [], ◌∷◌, ◌++◌, Bool, true, false, ◌||◌, IsTrue, Option, is_some, Result, Ok, Err, IfErr, IsErrAnd, take, length, refl, sym, ◌∙◌, ap, subst}
 use Rattle.std.proofs.lemmas.List.{append_assoc, append-nil}
 use Rattle.std.specs.Io.KnownBytes.{Appends}
-use Rattle.outside.specs.Contents.{Files, Contents, HasFiles, Fits}
+use Rattle.outside.specs.Contents.{Contents, HasFiles, Fits}
 use Rattle.faissb_core.specs.declared.TheConstants.{LINE_KEPT}
 use Rattle.faissb_core.specs.declared.stop.Stop.{Stop}
 use Rattle.faissb_core.specs.declared.stop.Stop.TheVariants.{ShelfFailed, Memory as NoMemory}
@@ -43,10 +43,6 @@ pub record Come (all : Progress) (bytes : List ℕ) (held : Held) (contents : Op
   pub at : beside held (feed all part).files ≡ feed all part
   pub fits : Fits (feed all part).files contents (fed_loads (feed all part) rest)
   pub sent : Appends written new_written (fed_text all part)
-
-pub Come-start : (held : Held) (files : Files) (bytes : List ℕ) (contents : Option Contents) (written : Option (List ℕ))
-    → Fits files contents (fed_loads (beside held files) bytes) → Come (beside held files) bytes held contents bytes written written
-Come-start held files bytes contents written fits = record { part = []; parts = refl; at = refl; fits = fits; sent = Appends-none written }
 
 module _ (all : Progress) (bytes : List ℕ) (before : Held) (contents : Option Contents) (line rest : List ℕ) (w v : Option (List ℕ)) (come : Come all bytes before contents rest w v)
     (short : length before.line ≤ LINE_KEPT) (plain : IsPlain line) where

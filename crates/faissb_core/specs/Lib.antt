@@ -6,6 +6,7 @@ pub mod Faults
 pub mod Inside
 pub mod Lines
 pub mod Machine
+pub mod Marked
 pub mod Parsed
 pub mod Progress
 pub mod Runs

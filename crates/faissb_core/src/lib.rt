@@ -5,6 +5,7 @@ mod adding;
 mod command;
 mod factory_word;
 mod fault;
+pub mod laws;
 mod outgoing;
 mod query;
 mod read_codes;

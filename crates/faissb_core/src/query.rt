@@ -93,12 +93,12 @@ pub fn range_in<I: BinaryIndex<Led = Plain>>(
     requires trained { is_trained (I.value index.now) ≡ true }
     ensures { (files : Files) → IfOk result (AppliedAlone (range_step (I.value index.now) files radius word.now) (Some (I.value index.now)) files) }
 {
-    let Some(query) = read_code(alloc, index.dim().bytes(), word)? else {
+    let Some(centre) = read_code(alloc, index.dim().bytes(), word)? else {
         return Ok(Reply::Refused(Refusal::Code));
     };
     if radius > RADIUS_LIMIT {
         return Ok(Reply::Refused(Refusal::Value));
     }
-    let reply = inside(alloc, index, &query, radius as u32)?;
+    let reply = inside(alloc, index, &centre, radius as u32)?;
     Ok(reply)
 }

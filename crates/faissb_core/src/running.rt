@@ -1,5 +1,5 @@
 // What a run holds between two reads.
-ghost use Rattle.std.specs.Prelude.{is_some, [], ◌≡◌, ◌≢◌, ◌≤◌, ◌∷◌, ◌++◌, All, MatchOption, OnOk, IfOk, IfErr, OnErr, IsErrOf, length, take, vec_len};
+ghost use Rattle.std.specs.Prelude.{is_some, [], ◌≡◌, ◌≢◌, ◌≤◌, ◌++◌, OnOk, IfOk, IfErr, OnErr, IsErrOf, length, take, vec_len};
 ghost use Rattle.std.specs.Io.KnownBytes.{Appends};
 ghost use Rattle.outside.specs.Causes.{HasCause};
 ghost use Rattle.outside.specs.Contents.{Files, HasFiles, Fits};
@@ -8,19 +8,11 @@ ghost use Rattle.faissb_core.specs.Progress.{nothing_held, hold_more, beside, en
 ghost use Rattle.faissb_core.specs.Stopped.{StopsIn, Stopped};
 
 use crate::fault::Fault;
+use crate::words::cut_at;
 use crate::{LINE_KEPT, Session, write_reply};
 use outside::{Shelf, Sink};
 use std::alloc::{AllocError, Global};
 use std::marker::Model;
-
-// The first line, and what follows its line feed.
-fn split_line(bytes: &[u8]) -> Option<(&[u8], &[u8])>
-    ensures { MatchOption result (All (λ b. b ≢ 10) bytes.now)
-        (λ parts. All (λ b. b ≢ 10) parts.0.now × (bytes.now ≡ parts.0.now ++ 10 ∷ parts.1.now)) }
-{
-    let at = bytes.iter().position(|b| *b == b'\n')?;
-    Some((&bytes[..at], &bytes[at + 1..]))
-}
 
 // Holds more of a line, but no more than is kept.
 #[tactic(auto, using(crate::proofs::KeptLemmas::extend_kept))]
@@ -122,7 +114,7 @@ impl Running {
         // Opened, so that the line is known to be short.
         let _ = &self.line;
         let mut rest = bytes;
-        while let Some((line, more)) = split_line(rest) {
+        while let Some((line, more)) = cut_at(rest, b'\n') {
             self.hold(line)?;
             self.end_line(alloc, out, shelf)?;
             rest = more;

@@ -1,9 +1,11 @@
 // The run of a script.
-ghost use Rattle.std.specs.Prelude.{IsTrue, ◌≡◌, ◌≢◌, ◌<◌, ◌≤◌, ◌↔◌, ◌+◌, ◌∷◌, [], List, ℕ, Some, is_some, length, map, codes, string_bytes};
+ghost use Rattle.std.specs.Prelude.{IsTrue, ◌≡◌, ◌≢◌, ◌<◌, ◌≤◌, ◌↔◌, ◌+◌, ◌∷◌, [], List, ℕ, None, Some, is_some, length, map, codes, string_bytes};
 ghost use Rattle.std.specs.Io.KnownBytes.{Appends};
 ghost use Rattle.outside.specs.Causes.{HasCause, Rose};
 ghost use Rattle.outside.specs.Contents.{Files, HasFiles, Fits};
 ghost use Rattle.faissb_core.specs.Machine.{script_text, script_files, script_refuses};
+ghost use Rattle.faissb_core.specs.Lines.{lines};
+ghost use Rattle.faissb_core.specs.Marked.{AllMarkedAreScans};
 ghost use Rattle.faissb_core.specs.Progress.{beside, last_loads};
 ghost use Rattle.faissb_core.specs.Ended.{IsEnd, EndIs};
 ghost use Rattle.faissb_core.specs.Runs.{IsScriptRun, IsPast, loads};
@@ -98,6 +100,7 @@ fn is_script(words: &[String]) -> bool
     }
 }
 
+#[tactic(auto, using(crate::proofs::MarkedLemmas::lines_are))]
 /// Does all that the program does, but for its exit status and the line on wrong words.
 ///
 /// The words are those of the command line, without the program's name. The one word `script` applies the lines of the
@@ -135,6 +138,9 @@ pub fn run<S: Source, K: Sink, H: Shelf>(
     ensures long { result ≡ Status.TooLong → IsPast SCRIPT_LIMIT (S.taken script.old) (S.taken script.new) }
     ensures short { S.taken script.old + SCRIPT_LIMIT < S.taken script.new → IsCutShort result }
     ensures reads { S.taken script.new ≤ S.taken script.old + SCRIPT_LIMIT + CHUNK }
+
+    // Each answer of the machine that is marked as exact is that of a full scan.
+    ensures marked { (bytes : List ℕ) (files : Files) → AllMarkedAreScans None files (lines bytes) }
 
     // Where the objects tell and nothing fails, it is the plain machine. A shelf need not tell where no line reads a file.
     ensures answers { (bytes : List ℕ) (files : Files) → S.left script.old ≡ Some bytes → Fits files (H.contents shelf.old) (loads bytes)

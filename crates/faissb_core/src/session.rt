@@ -35,9 +35,10 @@ fn is_flat(factory: &[u8]) -> bool
 }
 
 impl Session {
-    ghost use Rattle.faissb_core.specs.Command.{is_load, is_save, words_of};
+    ghost use Rattle.faissb_core.specs.Command.{is_load, is_save, line_of};
     ghost use Rattle.faissb_core.specs.Machine.{command_step, new_step, step};
-    ghost use Rattle.faissb_core.specs.Applied.{Applied, AppliedAlone};
+    ghost use Rattle.faissb_core.specs.Applied.{Applied, AppliedAlone, answer_of};
+    ghost use Rattle.faissb_core.specs.Marked.{scan_of, MarkedIsScan};
     ghost use Rattle.faissb_core.specs.Parsed.{said};
 
     /// A session without an index.
@@ -90,6 +91,10 @@ impl Session {
         ensures ok { (files : Files) → Fits files (H.contents shelf.old) (is_load line.now)
             → IfOk result (Applied (step self.old files line.now) self.new (H.contents shelf.new)) }
 
+        // An answer that is marked as exact is that of a full scan.
+        ensures marked { IfOk result (λ reply. MarkedIsScan (scan_of self.old (line_of line.now)) (answer_of reply)) }
+
+        // A `Stop` leaves the session as it was.
         ensures err { OnErr result (self.new ≡ self.old) }
         ensures kept { (files : Files) → HasFiles files (H.contents shelf.old)
             → OnErr result (HasFiles files (H.contents shelf.new) ⊎ HasFiles (step self.old files line.now).files (H.contents shelf.new)) }
@@ -102,6 +107,8 @@ impl Session {
         ensures tells { is_some (H.contents shelf.new) ≡ is_some (H.contents shelf.old) }
         ensures cause { HasCause (H.faults shelf.old) (H.faults shelf.new) (IsErrOf result Stop.ShelfFailed) }
     {
+        // Opened, so that the state is known to be that of a Flat index.
+        let _ = &self.index;
         match read_line(line) {
             Line::TooLong => Ok(Reply::Refused(Refusal::Long)),
             Line::Silent => Ok(Reply::Silent),

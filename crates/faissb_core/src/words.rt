@@ -1,4 +1,4 @@
-// Words of a line: parted by one space each.
+// The words of a line, which one space each parts.
 ghost use Rattle.std.specs.Prelude.{◌≡◌, ◌≢◌, ◌∷◌, ◌++◌, [], ◌+◌, ◌<◌, ℕ, All, List, MatchOption, Option, Some, None, length, true, ◌≤◌};
 ghost use Rattle.std.specs.List.{list_all};
 ghost use Rattle.std.specs.Str.Parse.{digits_value};
