@@ -51,7 +51,7 @@ impl Running {
         ensures { result ≡ nothing_held }
     {
         Running {
-            session: Session::new(),
+            session: Session::new(alloc),
             line: Vec::new(alloc),
             refused: false,
         }

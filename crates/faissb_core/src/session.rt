@@ -41,8 +41,8 @@ impl Session {
     ghost use Rattle.faissb_core.specs.Marked.{scan_of, MarkedIsScan};
     ghost use Rattle.faissb_core.specs.Parsed.{said};
 
-    /// A session without an index.
-    pub fn new() -> Session
+    /// A session without an index. Takes no memory.
+    pub fn new(_alloc: Global) -> Session
         ensures { result ≡ None }
     {
         Session { index: None }
