@@ -1,0 +1,36 @@
+//! Reads a script from standard input, and writes the answers to standard output.
+#![tactic(auto)]
+
+use faissb_core::{Status, run, usage};
+use outside::{InputSource, OutputSink, SureShelf};
+use std::env;
+use std::io::{self, ErrorKind};
+use std::process::ExitCode;
+
+// The words of the command line, without the program's name.
+fn words_of(rt: &HostRuntime) -> io::Result<Vec<String>> {
+    let words = env::args(rt)?.skip(1).collect(rt.alloc())?;
+    Ok(words)
+}
+
+// The run over standard input and standard output.
+fn run_words(rt: &HostRuntime, words: &[String]) -> Status {
+    let mut script = InputSource::new(rt.reader());
+    let mut out = OutputSink::new(std::io::writer(rt));
+    let mut shelf = SureShelf::new(rt.alloc());
+    run(rt.alloc(), words, &mut script, &mut out, &mut shelf)
+}
+
+fn main(rt: HostRuntime) -> ExitCode {
+    let status = match words_of(&rt) {
+        Ok(words) => run_words(&rt, &words),
+        Err(error) if error.kind() == ErrorKind::OutOfMemory => Status::Memory,
+        // A word that is not UTF-8 is as wrong as no word.
+        Err(_) => run_words(&rt, &[]),
+    };
+    if status == Status::Usage {
+        // Where standard error takes nothing, the exit status says it alone.
+        let _ = eprintln!(rt; "{}", usage());
+    }
+    ExitCode::from(status.code())
+}
