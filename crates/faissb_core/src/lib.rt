@@ -49,3 +49,6 @@ pub const CHUNK: usize = 65_536;
 
 /// The bytes of one piece of a reply. The last piece of a reply may be shorter.
 pub const PIECE: usize = 8_192;
+
+#[cfg(test)]
+mod tests;
