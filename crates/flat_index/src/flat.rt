@@ -13,8 +13,14 @@ use kernel_table::{Kernel, Prepared};
 use std::alloc::Global;
 use std::marker::Model;
 
-/// An index of codes under their positions 0, 1, 2 and so on, Faiss's `IndexBinaryFlat`. Every query compares every
-/// code. The codes stand on one list of a pool, and are read under the caller's meter alone.
+// A run of a pool has at most so many rows.
+const RUN_ROWS: usize = 65_536;
+
+/// An index of codes under their positions 0, 1, 2 and so on, Faiss's `IndexBinaryFlat` (`IndexBinaryFlat.h`).
+///
+/// It is seen as a list of codes of `dim` bits. Every query compares every code, so no answer misses a row. The codes
+/// stand on list 0 of a pool over the ledger `L`, and are read under the caller's meter alone. The index is always
+/// within the load limit.
 #[derive(Drop)]
 pub struct Flat<L: Ledger> {
     dim: Dim,
@@ -33,7 +39,7 @@ impl<L: Ledger> Model for Flat<L> {
 }
 
 impl<L: Ledger> Flat<L> {
-    /// An index without codes.
+    /// An index without codes, each of which will have `dim` bits. The one error is `Want`.
     pub fn new(alloc: Global, dim: Dim) -> Result<Flat<L>, Want>
         ensures { IfOk result (λ f. f ≡ record { dim = dim.bits; codes = [] }) }
     {
@@ -42,7 +48,7 @@ impl<L: Ledger> Flat<L> {
         Ok(Flat { dim, pool })
     }
 
-    /// The code at a position. `lent` of the meter rises by 1.
+    /// The bytes of the code at position `p`, which is its inner label. `lent` of the meter rises by 1.
     pub fn code(&self, p: u64, meter: &mut Meter<L>) -> &[u8]
         requires { p < length self.now.codes }
         ensures code { result.now ≡ slice_index_or self.now.codes p [] }
@@ -52,12 +58,15 @@ impl<L: Ledger> Flat<L> {
     }
 }
 
+/// Codes are compared in the order of their positions, a run of the pool at a time. No centroid is compared, and no
+/// code is probed before others, so `fixed` and `bound` are 0; it is trained from the start.
 impl<L: Ledger> BinaryIndex for Flat<L> {
     type Led = L;
 
     ghost value = { λ f. Bare (FlatForm f) };
 
     fn dim(&self) -> Dim {
+        // Asked for what it tells of the rows: that their codes are bytes, so that the value is legal.
         let _count = self.pool.len(0);
         self.dim
     }
@@ -114,6 +123,8 @@ impl<L: Ledger> BinaryIndex for Flat<L> {
     }
 }
 
+/// A row's inner label is its position, so the caller chooses none. The room for all codes is made first, so that an
+/// add that fails has added nothing.
 impl<L: Ledger> Addable for Flat<L> {
     fn takes_ids(&self) -> bool {
         false
@@ -132,14 +143,14 @@ impl<L: Ledger> Addable for Flat<L> {
     }
 }
 
-// Room for the distances of one run of a list of `count` rows.
+// Room for the distances of any one run of a list of `count` rows.
 fn room_for_run(alloc: Global, count: usize) -> Result<Vec<u32>, Want>
-    ensures { IfOk result (λ room. vec_len room ≡ min count 65536) }
+    ensures { IfOk result (λ room. vec_len room ≡ min count RUN_ROWS) }
 {
-    vec![in alloc; 0u32; count.min(65536)]
+    vec![in alloc; 0; count.min(RUN_ROWS)]
 }
 
-// Offers each row of a run. The distances are written into the front of `distances`.
+// Offers each row of a run, with its distance from the query. `distances` is written over.
 fn offer_run(best: &mut BestK, kernel: &Prepared<'_>, run: Run<'_>, distances: &mut [u32])
     requires bits { best.old.bits ≡ 8 * length kernel.now }
     requires whole { length run.codes.now ≡ length run.labels.now * length kernel.now }
@@ -155,7 +166,7 @@ fn offer_run(best: &mut BestK, kernel: &Prepared<'_>, run: Run<'_>, distances: &
     best.offer_all(run.labels, part);
 }
 
-// Adds the rows of a run whose distance is below the radius.
+// Adds the rows of a run whose distance from the query is strictly below the radius. `distances` is written over.
 fn offer_run_below(
     found: &mut RangeHits,
     radius: u32,
@@ -173,7 +184,7 @@ fn offer_run_below(
     found.offer_below(radius, run.labels, part);
 }
 
-// Appends codes to list 0, which holds `count`, under their positions.
+// Appends codes under their positions to list 0, which holds `count` rows and has room for them.
 fn append_all<L: Ledger>(pool: &mut Pool<L>, count: usize, codes: &Codes)
     requires one { 0 < length pool.old.lists }
     requires count { count ≡ length (list_at pool.old 0).rows }
