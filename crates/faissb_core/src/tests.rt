@@ -159,7 +159,7 @@ fn a_long_reply_goes_out_in_pieces(rt: HostRuntime) -> Result<(), Fail> {
 
 #[test]
 fn lines_are_applied_one_by_one(rt: HostRuntime) -> Result<(), Fail> {
-    let mut session = Session::new();
+    let mut session = Session::new(rt.alloc());
     let mut shelf = SureShelf::new(rt.alloc());
     let mut sink = MemSink::new(rt.alloc());
     for line in [
