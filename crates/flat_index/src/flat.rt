@@ -1,9 +1,9 @@
-ghost use Rattle.std.specs.Prelude.{◌≡◌, ◌+◌, ◌*◌, ◌/◌, ◌^◌, ◌<◌, ◌≤◌, ◌⊎◌, [], ◌++◌, length, map, min, nat_lt, slice_index_or, take, vec_len, IfOk};
+ghost use Rattle.std.specs.Prelude.{◌≡◌, ◌+◌, ◌*◌, ◌/◌, ◌^◌, ◌<◌, ◌≤◌, ◌⊎◌, [], ◌++◌, length, map, min, nat_lt, slice_index_or, take, vec_len, IfOk, OnOk};
 ghost use Rattle.std.specs.List.{filter};
 ghost use Rattle.bcodes.specs.Hits.{in_order};
 ghost use Rattle.bcodes.specs.Ranges.{raised};
 ghost use Rattle.bcodes.specs.Value.{Flat as FlatForm, Bare, numbered};
-ghost use Rattle.bcodes.specs.Answers.{hit_of};
+ghost use Rattle.bcodes.specs.Answers.{best, hit_of, looked, within};
 ghost use Rattle.code_pool.specs.Lists.{list_at, rows_in};
 
 use bcodes::{Addable, BinaryIndex, Codes, Dim, Hits, Ledger, Meter, Want};
@@ -87,7 +87,16 @@ impl<L: Ledger> BinaryIndex for Flat<L> {
         0
     }
 
-    fn search(&self, alloc: Global, q: &[u8], k: u32, meter: &mut Meter<L>) -> Result<Hits, Want> {
+    /// What the trait says of a Flat index, which is always trained. No bucket is asked for, so the meter's `asked` stays.
+    fn search(&self, alloc: Global, q: &[u8], k: u32, meter: &mut Meter<L>) -> Result<Hits, Want>
+        requires size { length q.now ≡ self.now.dim / 8 }
+        requires some { 1 ≤ k }
+        ensures ok { IfOk result (λ hits. hits.items ≡ best (Bare (FlatForm self.now)) q.now k) }
+        ensures lent { OnOk result (meter.new.lent ≡ raised meter.old.lent (looked (Bare (FlatForm self.now)) q.now)) }
+        ensures lent_least { meter.old.lent ≤ meter.new.lent }
+        ensures lent_most { meter.new.lent ≤ meter.old.lent + looked (Bare (FlatForm self.now)) q.now }
+        ensures asked { meter.new.asked ≡ meter.old.asked }
+    {
         let count = self.pool.len(0);
         let kernel = Prepared::new(self.dim, q);
         let mut best = BestK::new(alloc, self.dim, k, count as u64)?;
@@ -101,13 +110,21 @@ impl<L: Ledger> BinaryIndex for Flat<L> {
         Ok(best.into_hits())
     }
 
+    /// What the trait says of a Flat index. The meter's `asked` stays, as in `search`.
     fn range(
         &self,
         alloc: Global,
         q: &[u8],
         radius: u32,
         meter: &mut Meter<L>,
-    ) -> Result<Hits, Want> {
+    ) -> Result<Hits, Want>
+        requires size { length q.now ≡ self.now.dim / 8 }
+        ensures ok { IfOk result (λ hits. hits.items ≡ within (Bare (FlatForm self.now)) q.now radius) }
+        ensures lent { OnOk result (meter.new.lent ≡ raised meter.old.lent (looked (Bare (FlatForm self.now)) q.now)) }
+        ensures lent_least { meter.old.lent ≤ meter.new.lent }
+        ensures lent_most { meter.new.lent ≤ meter.old.lent + looked (Bare (FlatForm self.now)) q.now }
+        ensures asked { meter.new.asked ≡ meter.old.asked }
+    {
         let count = self.pool.len(0);
         let kernel = Prepared::new(self.dim, q);
         let mut found = RangeHits::new(alloc);

@@ -1,10 +1,10 @@
-use Rattle.std.proofs.Common.{◌≡◌, ◌+◌, ◌<◌, ◌≤◌, ◌^◌, ◌++◌, ℕ, List, length, map, refl, sym, ap, ◌∙◌, arith, subst}
+use Rattle.std.proofs.Common.{◌<◌, ℕ, List, length, sym, ap, ◌∙◌, arith}
 use Rattle.std.proofs.lemmas.List.{length-map}
-use Rattle.bcodes.specs.Value.{Row, CodeList, Bare, Flat, IndexValue, weight}
+use Rattle.bcodes.specs.Value.{Row, CodeList, Bare, Flat}
 use Rattle.bcodes.specs.Answers.{after_add}
 use Rattle.bcodes.proofs.FormLemmas.{after_add_flat}
-use Rattle.code_pool.specs.Lists.{PoolLists, PoolList, list_at, with_list}
-use Rattle.flat_index.specs.Inside.{IsFlat, codes_in}
+use Rattle.code_pool.specs.Lists.{list_at}
+use Rattle.flat_index.specs.Inside.{codes_in}
 use Rattle.flat_index.proofs.AddLemmas.{added, flat_added, codes_added, load_added, few_added}
 use Rattle.flat_index.proofs.flat.FlatAddable.add_all.Goals as goal
 
