@@ -67,17 +67,12 @@ impl Session {
         ensures ok { (files : Files) → IfOk result (AppliedAlone (command_step self.old files (said command.entry)) self.new files) }
         ensures err { OnErr result (self.new ≡ self.old) }
     {
-        if let Command::New(bits, factory) = command {
-            return self.renew(alloc, bits, factory);
-        }
-        let Some(index) = &mut self.index else {
-            return Ok(Reply::Refused(Refusal::NoIndex));
-        };
-        match command {
-            Command::New(_, _) => unreachable!(),
-            Command::Add(words) => add_to(alloc, index, words),
-            Command::Search(k, word) => search_in(alloc, index, k, word),
-            Command::Range(radius, word) => range_in(alloc, index, radius, word),
+        match (command, &mut self.index) {
+            (Command::New(bits, factory), _) => self.renew(alloc, bits, factory),
+            (_, None) => Ok(Reply::Refused(Refusal::NoIndex)),
+            (Command::Add(words), Some(index)) => add_to(alloc, index, words),
+            (Command::Search(k, word), Some(index)) => search_in(alloc, index, k, word),
+            (Command::Range(radius, word), Some(index)) => range_in(alloc, index, radius, word),
         }
     }
 
