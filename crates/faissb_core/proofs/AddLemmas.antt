@@ -1,14 +1,14 @@
 -- What an add without ids does to a Flat index.
-use Rattle.std.proofs.Common.{◌≡◌, ℕ, ◌+◌, ◌*◌, ◌/◌, ◌<◌, ◌≤◌, Bool, true, false, cond, nat_lt, Option, Some, List, ◌++◌, length, refl, sym, ap, ◌∙◌, arith, length-append}
+use Rattle.std.proofs.Common.{◌≡◌, ℕ, ◌+◌, ◌*◌, ◌/◌, ◌<◌, ◌≤◌, true, false, nat_lt, Some, List, ◌++◌, length, refl, ap, ◌∙◌, arith, length-append}
 use Rattle.std.proofs.lemmas.Bool.Decides.{nat_tests}
 use Rattle.bcodes.specs.declared.TheConstants.{LOAD_LIMIT}
-use Rattle.bcodes.specs.Value.{CodeList, IndexValue, Bare, Flat, count_of, load_of, labels_from}
+use Rattle.bcodes.specs.Value.{CodeList, Bare, Flat, count_of, load_of, labels_from}
 use Rattle.bcodes.proofs.FormLemmas.{after_add_flat, load_flat}
 use Rattle.bcodes.proofs.NumberedLemmas.{length-labels_from}
 use Rattle.outside.specs.Contents.{Files}
 use Rattle.faissb_core.specs.declared.refusal.Refusal.TheVariants.{Load}
 use Rattle.faissb_core.specs.Answer.{Added}
-use Rattle.faissb_core.specs.Machine.{State, Step, answers, refuses, codes_of, after_plain_add, add_step}
+use Rattle.faissb_core.specs.Machine.{answers, refuses, codes_of, after_plain_add, add_step}
 
 pub flat_after : (v : CodeList) (added : List (List ℕ)) → after_plain_add (Bare (Flat v)) added ≡ Bare (Flat (record v { codes = v.codes ++ added }))
 flat_after v added = after_add_flat v (labels_from (length v.codes) (length added)) added (length-labels_from (length v.codes) (length added))

@@ -1,5 +1,5 @@
 -- A line that was applied.
-use Rattle.std.proofs.Common.{◌≡◌, ℕ, Option, Some, None, Bool, List, refl, sym, ap, ◌∙◌, subst}
+use Rattle.std.proofs.Common.{◌≡◌, ℕ, Option, Some, None, Bool, List, sym, ap, ◌∙◌, subst}
 use Rattle.outside.specs.Contents.{Contents, Files, HasFiles, Fits}
 use Rattle.faissb_core.specs.declared.reply.Reply.{Reply}
 use Rattle.faissb_core.specs.Command.{Line, line_of}

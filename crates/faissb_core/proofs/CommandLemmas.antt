@@ -1,5 +1,5 @@
 -- Lemmas on the words of a line.
-use Rattle.std.proofs.Common.{◌≡◌, ◌≢◌, ℕ, suc, ◌+◌, ◌-◌, ◌*◌, ◌^◌, ◌<◌, ◌≤◌, List, [], ◌∷◌, ◌++◌, length, take, get_or, All, Bool, true, false, eqb, cond, ◌&&◌, Option, Some, None, refl, sym, ap, ◌∙◌, arith, lit<, lit≤, add-one, pow-suc, nat_le}
+use Rattle.std.proofs.Common.{◌≡◌, ◌≢◌, ℕ, ◌+◌, ◌-◌, ◌*◌, ◌^◌, ◌<◌, ◌≤◌, List, [], ◌∷◌, ◌++◌, length, take, get_or, All, Bool, true, false, eqb, cond, Option, Some, None, refl, arith, lit<, add-one, pow-suc, nat_le}
 use Rattle.std.specs.List.{list_all}
 use Rattle.std.specs.Prelude.{codes}
 use Rattle.std.specs.Str.{bytes_eq}

@@ -1,5 +1,5 @@
 -- Each step leaves no index or a legal value.
-use Rattle.std.proofs.Common.{◌≡◌, ℕ, zero, suc, ◌+◌, ◌-◌, ◌*◌, ◌/◌, ◌%◌, ◌^◌, ◌<◌, ◌≤◌, Bool, true, false, cond, ◌&&◌, not, nat_le, nat_lt, eqb, Option, Some, None, is_some, Result, Ok, Err, List, [], ◌∷◌, ◌++◌, length, All, refl, sym, ap, ◌∙◌, subst, arith, length-append}
+use Rattle.std.proofs.Common.{◌≡◌, ℕ, ◌*◌, ◌/◌, ◌%◌, ◌≤◌, Bool, true, false, cond, ◌&&◌, not, nat_le, nat_lt, eqb, Option, Some, None, is_some, Result, Ok, Err, List, [], ◌∷◌, ◌++◌, length, All, refl, sym, ap, ◌∙◌, subst, arith}
 use Rattle.std.specs.Option.{option_map, option_and_then}
 use Rattle.std.specs.Result.{result_ok}
 use Rattle.std.specs.Prelude.{codes}
@@ -9,11 +9,11 @@ use Rattle.std.proofs.lemmas.Bool.Decides.{nat_tests}
 use Rattle.std.proofs.lemmas.List.Elements.{All-nil, All-cons, All-append}
 use Rattle.std.proofs.lemmas.List.{get_or_default}
 use Rattle.hex.specs.declared.error.FromHexError.{FromHexError}
-use Rattle.hex.specs.Hex.{decode_sized, decode_of, decode_pairs}
+use Rattle.hex.specs.Hex.{decode_sized}
 use Rattle.hex.proofs.HexLemmas.{decode_sized-ok, decode_sized-twice, decode_of-ok}
 use Rattle.bcodes.specs.declared.TheConstants.{LOAD_LIMIT}
 use Rattle.bcodes.specs.Ranges.{IsDim}
-use Rattle.bcodes.specs.Value.{CodeList, IndexValue, Bare, IdMap, Flat, Ivf, Hash, Multi, HasBytes, IsCode, IsLegalFlat, empty_flat, load_of}
+use Rattle.bcodes.specs.Value.{CodeList, Bare, IdMap, Flat, Ivf, Hash, Multi, HasBytes, IsCode, IsLegalFlat, empty_flat, load_of}
 use Rattle.bcodes.proofs.FormLemmas.{load_flat}
 use Rattle.outside.specs.Contents.{Files}
 use Rattle.faissb_core.specs.Command.{Command, New, Add, Search, Range, Line, TooLong, Silent, Whole, Broken, line_of}
@@ -21,7 +21,7 @@ use Rattle.faissb_core.specs.Answer.{Answer, Done}
 use Rattle.faissb_core.specs.declared.TheConstants.{K_LIMIT, RADIUS_LIMIT}
 use Rattle.faissb_core.specs.declared.refusal.Refusal.TheVariants.{Dim, Factory, Value, Load}
 use Rattle.faissb_core.specs.declared.factory_word.FactoryWord.TheVariants.{Unknown}
-use Rattle.faissb_core.specs.Machine.{State, Step, answers, refuses, is_dim, new_step, code_of, codes_of, add_codes, add_step, search_code, range_code, command_step, line_step, step, after_plain_add}
+use Rattle.faissb_core.specs.Machine.{State, answers, refuses, is_dim, code_of, codes_of, add_codes, search_code, range_code, command_step, line_step, step, after_plain_add}
 use Rattle.faissb_core.specs.Inside.{IsLegalState}
 use Rattle.faissb_core.proofs.AddLemmas.{flat_after}
 

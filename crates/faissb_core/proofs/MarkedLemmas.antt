@@ -1,11 +1,11 @@
 -- A marked answer is that of a full scan.
-use Rattle.std.proofs.Common.{◌≡◌, ℕ, ◌/◌, Bool, true, false, cond, ◌&&◌, not, nat_le, nat_lt, Option, Some, None, List, [], ◌∷◌, length, refl, sym, ap, ◌∙◌, subst}
+use Rattle.std.proofs.Common.{◌≡◌, ℕ, ◌/◌, Bool, true, false, cond, ◌&&◌, not, nat_le, nat_lt, Option, Some, None, List, [], ◌∷◌, refl, sym, ap, ◌∙◌, subst}
 use Rattle.std.specs.Option.{option_map}
 use Rattle.std.specs.Prelude.{codes}
 use Rattle.std.specs.Str.{bytes_eq}
 use Rattle.bcodes.specs.declared.TheConstants.{LOAD_LIMIT}
 use Rattle.bcodes.specs.declared.hit.Hit.{Hit}
-use Rattle.bcodes.specs.Value.{CodeList, IndexValue, Bare, IdMap, Flat, Ivf, Hash, Multi, empty_flat, load_of}
+use Rattle.bcodes.specs.Value.{CodeList, Bare, IdMap, Flat, Ivf, Hash, Multi, empty_flat, load_of}
 use Rattle.bcodes.specs.Answers.{best, within, scan_best, scan_within, looked}
 use Rattle.bcodes.specs.Marks.{search_mark, range_mark}
 use Rattle.bcodes.proofs.FormLemmas.{scan_best_flat, scan_within_flat}
@@ -14,12 +14,12 @@ use Rattle.faissb_core.specs.declared.TheConstants.{K_LIMIT, RADIUS_LIMIT}
 use Rattle.faissb_core.specs.declared.refusal.Refusal.TheVariants.{Dim, Factory, Value, Load}
 use Rattle.faissb_core.specs.declared.factory_word.FactoryWord.TheVariants.{Unknown}
 use Rattle.faissb_core.specs.Command.{Command, New, Add, Search, Range, Line, TooLong, Silent, Whole, Broken, line_of}
-use Rattle.faissb_core.specs.Answer.{Answer, Done, Added, Found, Refused}
-use Rattle.faissb_core.specs.Machine.{State, Step, answers, refuses, is_dim, code_of, codes_of, add_codes, search_code, range_code, command_step, line_step, step, after_plain_add}
+use Rattle.faissb_core.specs.Answer.{Done, Added, Found}
+use Rattle.faissb_core.specs.Machine.{State, answers, refuses, is_dim, code_of, codes_of, add_codes, search_code, range_code, command_step, line_step, step, after_plain_add}
 use Rattle.faissb_core.specs.Inside.{state_of, IsLegalState}
 use Rattle.faissb_core.specs.declared.reply.Reply.{Reply}
 use Rattle.faissb_core.specs.Applied.{AppliedAlone, answer_of}
-use Rattle.faissb_core.specs.Marked.{scan_command, scan_of, MarkedIsScan, AllMarkedAreScans}
+use Rattle.faissb_core.specs.Marked.{scan_of, MarkedIsScan, AllMarkedAreScans}
 use Rattle.faissb_core.proofs.LegalLemmas.{step_follows}
 
 -- a mark on hits that are those of the scan

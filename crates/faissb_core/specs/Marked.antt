@@ -9,7 +9,7 @@ use Rattle.bcodes.specs.Answers.{scan_best, scan_within}
 use Rattle.outside.specs.Contents.{Files}
 use Rattle.faissb_core.specs.Command.{Command, New, Add, Search, Range, Line, TooLong, Silent, Whole, Broken, line_of}
 use Rattle.faissb_core.specs.Answer.{Answer, Quiet, Done, Added, Found, Refused}
-use Rattle.faissb_core.specs.Machine.{State, Step, code_of, step}
+use Rattle.faissb_core.specs.Machine.{State, code_of, step}
 
 -- the answer of a full scan over all rows, where the command is a query
 abbrev pub scan_command : IndexValue → Command → Option (List Hit)

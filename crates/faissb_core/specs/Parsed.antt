@@ -1,7 +1,4 @@
 -- A line as it is read, and what it says.
-use Rattle.std.specs.declared.option.Option.{Option}
-use Rattle.std.specs.declared.option.Option.TheVariants.{None, Some}
-use Rattle.std.specs.Option.{option_map}
 use Rattle.faissb_core.specs.declared.command.Command.{Command as ReadCommand}
 use Rattle.faissb_core.specs.declared.command.Command.TheVariants.{New as ReadNew, Add as ReadAdd, Search as ReadSearch, Range as ReadRange}
 use Rattle.faissb_core.specs.declared.command.Line.{Line as ReadLine}

@@ -1,6 +1,6 @@
-use Rattle.std.proofs.Common.{rules, ◌≡◌, ◌<◌, ◌≤◌, ◌+◌, ◌*◌, ◌/◌, ℕ, Some, List, length, refl, sym, ap, ap₂, ◌∙◌, subst, arith}
+use Rattle.std.proofs.Common.{rules, ◌≡◌, ◌<◌, ◌≤◌, ◌+◌, ◌*◌, ◌/◌, Some, List, length, refl, ap, ap₂, ◌∙◌, arith}
 use Rattle.bcodes.specs.declared.TheConstants.{LOAD_LIMIT}
-use Rattle.bcodes.specs.Value.{Bare, Flat, count_of, labels_from, load_of}
+use Rattle.bcodes.specs.Value.{Bare, Flat, count_of, labels_from}
 use Rattle.bcodes.specs.Answers.{after_add}
 use Rattle.bcodes.proofs.NumberedLemmas.{length-labels_from}
 use Rattle.faissb_core.specs.Answer.{Added}

@@ -1,6 +1,5 @@
-use Rattle.std.proofs.Common.{◌≡◌, ◌+◌, ◌++◌, ◌∷◌, [], pos, to_z, w64, refl, sym, ap, ◌∙◌, arith}
+use Rattle.std.proofs.Common.{◌≡◌, ◌+◌, pos, to_z, w64, sym, arith}
 use Rattle.std.proofs.lemmas.Int.{ints}
-use Rattle.bcodes.specs.Value.{labels_from}
 use Rattle.bcodes.proofs.NumberedLemmas.{labels_from-push}
 use Rattle.faissb_core.proofs.adding.labels.Goals as goal
 

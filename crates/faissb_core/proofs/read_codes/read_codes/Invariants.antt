@@ -1,4 +1,4 @@
-use Rattle.std.proofs.Common.{◌≡◌, ◌++◌, ◌/◌, length, vec_len}
+use Rattle.std.proofs.Common.{◌≡◌, ◌++◌, ◌/◌, vec_len}
 use Rattle.std.specs.Option.{option_map}
 use Rattle.faissb_core.specs.Command.{words_of}
 use Rattle.faissb_core.specs.Machine.{codes_of}

@@ -1,4 +1,4 @@
-use Rattle.std.proofs.Common.{rules, refl, ◌==◌}
+use Rattle.std.proofs.Common.{rules, ◌==◌}
 use Rattle.std.proofs.lemmas.Iterator.Splits.{YieldsList-from_slice_split}
 use Rattle.std.proofs.lemmas.Iterator.Search.{all_from_yields_List}
 use Rattle.faissb_core.specs.Command.{is_word}

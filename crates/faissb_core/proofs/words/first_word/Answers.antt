@@ -1,4 +1,3 @@
-use Rattle.std.proofs.Common.{arith, length-append, ap, length, ◌∙◌}
 use Rattle.faissb_core.proofs.CommandLemmas.{words_of_last, words_of_first}
 use Rattle.faissb_core.proofs.words.first_word.Goals as goal
 

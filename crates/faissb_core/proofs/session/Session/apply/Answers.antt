@@ -1,4 +1,4 @@
-use Rattle.std.proofs.Common.{◌≡◌, refl, sym, ap, ◌∙◌}
+use Rattle.std.proofs.Common.{refl, sym, ap, ◌∙◌}
 use Rattle.faissb_core.specs.Parsed.{line_said}
 use Rattle.faissb_core.proofs.AppliedLemmas.{applied_line}
 use Rattle.faissb_core.proofs.MarkedLemmas.{reply_is}
