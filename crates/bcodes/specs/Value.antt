@@ -1,9 +1,10 @@
 -- The value of an index, as plain data.
-use Rattle.std.specs.Prelude.{◌≡◌, ℕ, zero, suc, ◌+◌, ◌*◌, ◌/◌, ◌^◌, ◌<◌, ◌≤◌, ℤ, pos, ◌≤ℤ◌, ◌<ℤ◌, FitsSigned, List, [], ◌∷◌, length, map, Bool, true, false, nat_eq}
+use Rattle.std.specs.Prelude.{◌≡◌, ℕ, zero, suc, ◌+◌, ◌*◌, ◌/◌, ◌^◌, ◌<◌, ◌≤◌, ℤ, pos, ◌≤ℤ◌, ◌<ℤ◌, FitsSigned, List, []}
+use Rattle.std.specs.Prelude.{◌∷◌, length, map, Bool, true, false, not, nat_le}
 use Rattle.std.specs.Int.{w64}
-use Rattle.std.specs.List.{All}
-use Rattle.bcodes.specs.Ranges.{IsDim}
-use Rattle.bcodes.specs.declared.TheConstants.{LOAD_LIMIT}
+use Rattle.std.specs.List.{All, count_by}
+use Rattle.std.specs.Ordering.{int_eq}
+use Rattle.bcodes.specs.Ranges.{IsDim, load_limit}
 use Rattle.bcodes.specs.declared.map_name.MapName.{MapName}
 
 -- codes of one dimension
@@ -22,10 +23,13 @@ pub record ListRow : Type 0 where
   pub code : List ℕ
   pub list : ℕ
 
+-- max_codes 0 is no limit; direct says whether a direct map is kept
 pub record IvfValue : Type 0 where
   pub dim : ℕ
   pub nlist : ℕ
   pub nprobe : ℕ
+  pub max_codes : ℕ
+  pub direct : Bool
   pub centroids : List (List ℕ)
   pub rows : List ListRow
 
@@ -75,7 +79,8 @@ abbrev pub empty_flat : ℕ → CodeList
 empty_flat d = record { dim = d; codes = [] }
 
 abbrev pub empty_ivf : ℕ → ℕ → IvfValue
-empty_ivf d lists = record { dim = d; nlist = lists; nprobe = 1; centroids = []; rows = [] }
+empty_ivf d lists =
+    record { dim = d; nlist = lists; nprobe = 1; max_codes = 0; direct = false; centroids = []; rows = [] }
 
 abbrev pub empty_hash : ℕ → ℕ → HashValue
 empty_hash d bits = record { dim = d; b = bits; nflip = 0; rows = [] }
@@ -117,7 +122,7 @@ count_of v = count_of_inner (inner_of v)
 
 abbrev pub is_trained_inner : Inner → Bool
 is_trained_inner (Flat v) = true
-is_trained_inner (Ivf v) = nat_eq (length v.centroids) v.nlist
+is_trained_inner (Ivf v) = nat_le v.nlist (length v.centroids)
 is_trained_inner (Hash v) = true
 is_trained_inner (Multi v) = true
 
@@ -127,7 +132,7 @@ is_trained v = is_trained_inner (inner_of v)
 -- whether rows are added under labels that the caller chooses
 abbrev pub takes_ids_inner : Inner → Bool
 takes_ids_inner (Flat v) = false
-takes_ids_inner (Ivf v) = true
+takes_ids_inner (Ivf v) = not v.direct
 takes_ids_inner (Hash v) = true
 takes_ids_inner (Multi v) = false
 
@@ -166,10 +171,14 @@ pub record IsListRow (d nlist : ℕ) (row : ListRow) : Type 0 where
   pub code : IsCode d row.code
   pub list : row.list < nlist
 
+-- the labels are the numbers below their count, each once
+abbrev pub IsNumbering : List ℤ → Type 0
+IsNumbering labels = (n : ℕ) → n < length labels → count_by (int_eq (pos n)) labels ≡ 1
+
 pub record IsLegalFlat (v : CodeList) : Type 0 where
   pub dim : IsDim v.dim
   pub codes : All (IsCode v.dim) v.codes
-  pub load : load_of_inner (Flat v) ≤ LOAD_LIMIT
+  pub load : load_of_inner (Flat v) ≤ load_limit
 
 pub record IsLegalIvf (v : IvfValue) : Type 0 where
   pub dim : IsDim v.dim
@@ -177,11 +186,13 @@ pub record IsLegalIvf (v : IvfValue) : Type 0 where
   pub nlist_most : v.nlist ≤ 4194304
   pub nprobe_least : 1 ≤ v.nprobe
   pub nprobe_most : v.nprobe < 2 ^ 63
+  pub max_codes : v.max_codes < 2 ^ 63
   pub centroids : All (IsCode v.dim) v.centroids
   pub held : length v.centroids ≤ v.nlist
   pub rows : All (IsListRow v.dim v.nlist) v.rows
   pub filled : 0 < length v.rows → length v.centroids ≡ v.nlist
-  pub load : load_of_inner (Ivf v) ≤ LOAD_LIMIT
+  pub direct : v.direct ≡ true → IsNumbering (map (λ row. row.label) v.rows)
+  pub load : load_of_inner (Ivf v) ≤ load_limit
 
 pub record IsLegalHash (v : HashValue) : Type 0 where
   pub dim : IsDim v.dim
@@ -190,7 +201,7 @@ pub record IsLegalHash (v : HashValue) : Type 0 where
   pub b_within : v.b ≤ v.dim
   pub nflip : v.nflip ≤ v.b
   pub rows : All (IsRow v.dim) v.rows
-  pub load : load_of_inner (Hash v) ≤ LOAD_LIMIT
+  pub load : load_of_inner (Hash v) ≤ load_limit
 
 pub record IsLegalMulti (v : MultiValue) : Type 0 where
   pub dim : IsDim v.dim
@@ -201,7 +212,7 @@ pub record IsLegalMulti (v : MultiValue) : Type 0 where
   pub within : v.nhash * v.b ≤ v.dim
   pub nflip : v.nflip ≤ v.b
   pub codes : All (IsCode v.dim) v.codes
-  pub load : load_of_inner (Multi v) ≤ LOAD_LIMIT
+  pub load : load_of_inner (Multi v) ≤ load_limit
 
 abbrev pub IsLegalInner : Inner → Type 0
 IsLegalInner (Flat v) = IsLegalFlat v
