@@ -6,7 +6,7 @@ use std::alloc::{AllocError, Global};
 
 /// The numbers of the calls of a device that fail, the number of its next call, and how many
 /// calls failed so far.
-#[derive(Drop)]
+#[derive(Debug, Drop)]
 pub(crate) struct Failures {
     pub(crate) failing: Vec<u64>,
     pub(crate) next: u64,

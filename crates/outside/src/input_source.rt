@@ -10,7 +10,7 @@ use std::marker::Model;
 /// A source over a reader, such as standard input. It does not tell its bytes, and counts each
 /// error of the reader as a fault. Contracts see the reader, the number of bytes handed out and
 /// the number of faults.
-#[derive(Drop)]
+#[derive(Debug, Drop)]
 pub struct InputSource<R> {
     reader: R,
     taken: u64,

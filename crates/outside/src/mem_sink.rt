@@ -1,4 +1,5 @@
-ghost use Rattle.std.specs.Prelude.{◌≡◌, ◌↔◌, ◌∷◌, ◌++◌, [], Some, length, Contains, IsErrOf, IfOk, OnOk, OnErr};
+ghost use Rattle.std.specs.Prelude.{◌≡◌, ◌↔◌, ◌∷◌, ◌++◌, [], Some, length, Contains, IsErrOf, IfOk};
+ghost use Rattle.std.specs.Prelude.{OnOk, OnErr};
 ghost use Rattle.outside.specs.Causes.{HasCause, next_count};
 
 use crate::failures::Failures;
@@ -11,7 +12,7 @@ use std::marker::Model;
 ///
 /// Writes are numbered from 0, those that fail among them. The numbers stop at `u64::MAX`: the
 /// write of that number and all later ones share it.
-#[derive(Drop)]
+#[derive(Debug, Drop)]
 pub struct MemSink {
     inner: SureSink,
     failures: Failures,

@@ -1,4 +1,5 @@
-ghost use Rattle.std.specs.Prelude.{◌≡◌, ◌-◌, ◌^◌, ◌<◌, ◌↔◌, ◌∷◌, ◌++◌, [], Some, length, drop, Contains, IsErr, IfOk, OnOk, OnErr};
+ghost use Rattle.std.specs.Prelude.{◌≡◌, ◌-◌, ◌^◌, ◌<◌, ◌↔◌, ◌∷◌, ◌++◌, [], Some, length, drop};
+ghost use Rattle.std.specs.Prelude.{Contains, IsErr, IfOk, OnOk, OnErr};
 ghost use Rattle.std.specs.Io.{ReadsAtMost};
 ghost use Rattle.std.specs.Io.KnownBytes.{ReadConsumes};
 ghost use Rattle.outside.specs.Causes.{HasCause, TakesCount, next_count};
@@ -15,7 +16,7 @@ use std::marker::Model;
 ///
 /// Reads are numbered from 0, those that fail among them. The numbers stop at `u64::MAX`: the read
 /// of that number and all later ones share it.
-#[derive(Drop)]
+#[derive(Debug, Drop)]
 pub struct MemSource {
     inner: SureSource,
     failures: Failures,

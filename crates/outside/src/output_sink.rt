@@ -1,4 +1,5 @@
-ghost use Rattle.std.specs.Prelude.{◌≡◌, ◌<◌, None, length, take, IsErrOf, IfOk, IsOkUnless, MatchResult};
+ghost use Rattle.std.specs.Prelude.{◌≡◌, ◌<◌, None, length, take, IsErrOf, IfOk, IsOkUnless};
+ghost use Rattle.std.specs.Prelude.{MatchResult};
 ghost use Rattle.std.specs.Io.{WritesAtMost};
 ghost use Rattle.std.specs.Io.KnownBytes.{Appends};
 ghost use Rattle.outside.specs.Causes.{HasCause, next_count};
@@ -10,7 +11,7 @@ use std::marker::Model;
 /// A sink over a writer, such as standard output, which is flushed after each write. It does not
 /// tell its bytes, and counts each error of the writer as a fault. Contracts see the writer and
 /// the number of faults.
-#[derive(Drop)]
+#[derive(Debug, Drop)]
 pub struct OutputSink<W> {
     writer: W,
     faults: u64,

@@ -5,7 +5,7 @@ use crate::Shelf;
 use std::alloc::Global;
 
 /// A shelf in memory that never fails. It holds no file, and keeps the allocator for those to come.
-#[derive(Drop)]
+#[derive(Debug, Drop)]
 pub struct SureShelf {
     alloc: Global,
 }

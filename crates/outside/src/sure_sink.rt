@@ -5,7 +5,7 @@ use std::alloc::Global;
 use std::marker::Model;
 
 /// A sink in memory that never fails. Contracts see the bytes that it took.
-#[derive(Drop)]
+#[derive(Debug, Drop)]
 pub struct SureSink {
     bytes: Vec<u8>,
 }

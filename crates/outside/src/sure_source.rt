@@ -10,7 +10,7 @@ use std::marker::Model;
 
 /// A source in memory that never fails. Contracts see the bytes still to come, the most bytes of
 /// one read, and the number of bytes handed out.
-#[derive(Drop)]
+#[derive(Debug, Drop)]
 pub struct SureSource {
     bytes: Vec<u8>,
     at: usize,

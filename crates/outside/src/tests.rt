@@ -5,41 +5,74 @@ use crate::{
 use std::io::{self, ErrorKind, Read, Write};
 use std::test::Fail;
 
-/// A reader whose second read fails.
+/// A reader that gives at most two bytes at once, and whose second read fails.
 #[derive(Drop)]
-struct Faltering<'a> {
+struct FalteringReader<'a> {
     bytes: &'a [u8],
+    kind: ErrorKind,
     reads: u8,
 }
 
-impl Read for Faltering<'_> {
+impl Read for FalteringReader<'_> {
     fn read(&mut self, buf: &mut [u8]) -> io::Result<usize> {
         self.reads = self.reads.saturating_add(1);
         if self.reads == 2 {
-            return Err(ErrorKind::Other.into());
+            return Err(self.kind.into());
         }
-        self.bytes.read(buf)
+        let len = buf.len().min(2);
+        self.bytes.read(&mut buf[..len])
     }
 }
 
-/// A writer that takes at most so many bytes at once, and whose flush may fail.
+/// A writer whose first write or first flush fails. It takes all bytes of every other write.
 #[derive(Drop)]
-struct Narrow {
-    width: usize,
-    flushes: bool,
+struct FalteringWriter {
+    kind: ErrorKind,
+    write_fails: bool,
+    flush_fails: bool,
 }
 
-impl Write for Narrow {
+impl Write for FalteringWriter {
     fn write(&mut self, piece: &[u8]) -> io::Result<usize> {
+        if self.write_fails {
+            self.write_fails = false;
+            return Err(self.kind.into());
+        }
+        Ok(piece.len())
+    }
+
+    fn flush(&mut self) -> io::Result<()> {
+        if self.flush_fails {
+            self.flush_fails = false;
+            return Err(self.kind.into());
+        }
+        Ok(())
+    }
+}
+
+/// A writer that takes at most so many bytes at once. Each write needs a flush before the next
+/// one, and each flush needs a write before it.
+#[derive(Drop)]
+struct NarrowWriter {
+    width: usize,
+    is_flushed: bool,
+}
+
+impl Write for NarrowWriter {
+    fn write(&mut self, piece: &[u8]) -> io::Result<usize> {
+        if !self.is_flushed {
+            return Err(ErrorKind::Other.into());
+        }
+        self.is_flushed = false;
         Ok(piece.len().min(self.width))
     }
 
     fn flush(&mut self) -> io::Result<()> {
-        if self.flushes {
-            Ok(())
-        } else {
-            Err(ErrorKind::Other.into())
+        if self.is_flushed {
+            return Err(ErrorKind::Other.into());
         }
+        self.is_flushed = true;
+        Ok(())
     }
 }
 
@@ -52,32 +85,62 @@ fn write_to<S: Sink>(sink: &mut S, piece: &[u8]) -> Result<usize, Trouble> {
 }
 
 #[test]
-fn reads_input(rt: HostRuntime) {
-    let mut source = InputSource::new(Faltering {
-        bytes: b"hello",
-        reads: 0,
-    });
-    let mut buf = [0; 3];
-    assert_eq!(rt; read_from(&mut source, &mut buf), Ok(3));
-    assert_eq!(rt; buf, *b"hel");
-    assert_eq!(rt; read_from(&mut source, &mut buf), Err(Failed));
-    assert_eq!(rt; read_from(&mut source, &mut buf), Ok(2));
-    assert_eq!(rt; &buf[..2], b"lo".as_slice());
-    assert_eq!(rt; read_from(&mut source, &mut buf), Ok(0));
+fn reads_once_and_never_again_after_an_error(rt: HostRuntime) {
+    for kind in [ErrorKind::Other, ErrorKind::Interrupted] {
+        let mut source = InputSource::new(FalteringReader {
+            bytes: b"hello",
+            kind,
+            reads: 0,
+        });
+        let mut buf = [0; 3];
+        assert_eq!(rt; read_from(&mut source, &mut buf), Ok(2));
+        assert_eq!(rt; buf, *b"he\0");
+        assert_eq!(rt; read_from(&mut source, &mut buf), Err(Failed));
+        assert_eq!(rt; read_from(&mut source, &mut buf), Ok(2));
+        assert_eq!(rt; &buf[..2], b"ll".as_slice());
+        assert_eq!(rt; read_from(&mut source, &mut buf), Ok(1));
+        assert_eq!(rt; buf[0], b'o');
+        assert_eq!(rt; read_from(&mut source, &mut buf), Ok(0));
+    }
 }
 
 #[test]
-fn writes_output(rt: HostRuntime) {
+fn writes_once_and_never_again_after_an_error(rt: HostRuntime) {
+    for kind in [ErrorKind::Other, ErrorKind::Interrupted] {
+        for write_fails in [true, false] {
+            let mut sink = OutputSink::new(FalteringWriter {
+                kind,
+                write_fails,
+                flush_fails: !write_fails,
+            });
+            assert_eq!(rt; write_to(&mut sink, b"hello"), Err(Trouble::Failed));
+            assert_eq!(rt; write_to(&mut sink, b"hello"), Ok(5));
+        }
+    }
+}
+
+#[test]
+fn flushes_once_after_each_write(rt: HostRuntime) {
+    let mut sink = OutputSink::new(NarrowWriter {
+        width: 2,
+        is_flushed: true,
+    });
+    assert_eq!(rt; write_to(&mut sink, b"hello"), Ok(2));
+    assert_eq!(rt; write_to(&mut sink, b"llo"), Ok(2));
+    assert_eq!(rt; write_to(&mut sink, b"o"), Ok(1));
+    assert_eq!(rt; write_to(&mut sink, b""), Ok(0));
+
+    let mut closed = OutputSink::new(NarrowWriter {
+        width: 0,
+        is_flushed: true,
+    });
+    assert_eq!(rt; write_to(&mut closed, b"hello"), Err(Trouble::Failed));
+}
+
+#[test]
+fn writes_to_a_vector(rt: HostRuntime) {
     let mut sink = OutputSink::new(Vec::new(rt.alloc()));
     assert_eq!(rt; write_to(&mut sink, b"hello"), Ok(5));
-    for (width, flushes, want) in [
-        (2, true, Ok(2)),
-        (0, true, Err(Trouble::Failed)),
-        (2, false, Err(Trouble::Failed)),
-    ] {
-        let mut sink = OutputSink::new(Narrow { width, flushes });
-        assert_eq!(rt; write_to(&mut sink, b"hello"), want);
-    }
 }
 
 #[test]
@@ -124,5 +187,15 @@ fn never_fails(rt: HostRuntime) -> Result<(), Fail> {
     assert_eq!(rt; write_to(&mut sink, b"hello"), Ok(5));
     assert_eq!(rt; sink.as_slice(), b"hello".as_slice());
     let _shelf = SureShelf::new(rt.alloc());
+    Ok(())
+}
+
+#[test]
+fn prints_errors(rt: HostRuntime) -> Result<(), Fail> {
+    let text = format!(in rt.alloc(); "{Failed}, {}, {}", Trouble::Failed, Trouble::Memory)?;
+    assert_eq!(rt;
+        text.as_str(),
+        "the device failed, the device failed, out of memory"
+    );
     Ok(())
 }

@@ -2,13 +2,16 @@ ghost use Rattle.std.specs.Prelude.{◌≡◌};
 ghost use Rattle.outside.specs.declared.trouble.Trouble.TheVariants.{Memory};
 
 use std::alloc::AllocError;
+use thiserror::Error;
 
-/// Why a call of a sink or a shelf gave no answer.
-#[derive(Clone, Copy, Debug, PartialEq, Eq)]
+/// Why a call of a sink or a shelf failed.
+#[derive(Clone, Copy, Debug, Error, PartialEq, Eq)]
 pub enum Trouble {
     /// The device failed: its count of faults rose in the call.
+    #[error("the device failed")]
     Failed,
-    /// There was no memory for the call.
+    /// Memory ran out. This counts no fault.
+    #[error("out of memory")]
     Memory,
 }
 
