@@ -1,11 +1,19 @@
-ghost use Rattle.std.specs.Prelude.{◌≡◌, ◌≤◌, length};
+ghost use Rattle.std.specs.Prelude.{◌≡◌, ◌*◌, ◌≤◌, length, map};
+ghost use Rattle.bcodes.specs.Bits.{dist};
+ghost use Rattle.bcodes.specs.Chunks.{chunks_of};
 
+use crate::few::Few;
 use crate::kernel::Kernel;
-use bcodes::distance_plain;
+use crate::lanes::{PART, differing_in_parts};
+use crate::rest::{WORD, differing_in_last, differing_in_words};
+use bcodes::code_at;
 use std::marker::Model;
 
+const WORDS_A_PART: usize = PART / WORD;
+
 /// A query of any code size from 1 to 8,192 bytes, which it borrows: Faiss's
-/// `HammingComputerDefault`. Clauses see its bytes.
+/// `HammingComputerDefault`. It compares 32 bytes at a time, then 8 bytes at a time, and then the
+/// last few. Clauses see its bytes.
 #[derive(Debug, Drop)]
 pub struct General<'q> {
     bytes: &'q [u8],
@@ -40,6 +48,38 @@ impl Kernel for General<'_> {
     }
 
     fn distance(&self, code: &[u8]) -> u32 {
-        distance_plain(code, self.bytes)
+        let size = code.len();
+        let parts = size / PART;
+        let words = size / WORD;
+        differing_in_parts(code, self.bytes, parts)
+            + differing_in_words(code, self.bytes, WORDS_A_PART * parts, words)
+            + differing_in_last(code, self.bytes, size % WORD)
+    }
+
+    // Codes of up to 8 words and a part of one are compared by a loop for their number of words.
+    fn scan(&self, run: &[u8], out: &mut [u32]) {
+        match self.bytes.len() / WORD {
+            1 => Few::<1>::prepare(self.bytes).scan(run, out),
+            2 => Few::<2>::prepare(self.bytes).scan(run, out),
+            3 => Few::<3>::prepare(self.bytes).scan(run, out),
+            4 => Few::<4>::prepare(self.bytes).scan(run, out),
+            5 => Few::<5>::prepare(self.bytes).scan(run, out),
+            6 => Few::<6>::prepare(self.bytes).scan(run, out),
+            7 => Few::<7>::prepare(self.bytes).scan(run, out),
+            8 => Few::<8>::prepare(self.bytes).scan(run, out),
+            _ => scan_each(self, run, out),
+        }
+    }
+}
+
+// Compares each code by itself.
+fn scan_each(kernel: &General<'_>, run: &[u8], out: &mut [u32])
+    requires { length run.now ≡ length kernel.now * length out.old }
+    ensures { out.new ≡ map (λ code. dist code kernel.now)
+        (chunks_of (length kernel.now) (length out.old) run.now) }
+{
+    let size = kernel.size();
+    for (i, distance) in out.iter_mut().enumerate() {
+        *distance = kernel.distance(code_at(run, size, i));
     }
 }

@@ -2,9 +2,12 @@
 //! size. They follow Faiss's classes `HammingComputer..` of `faiss/utils/hamming_distance`.
 #![tactic(auto)]
 
+mod few;
 mod general;
 mod half;
 mod kernel;
+mod lanes;
+mod rest;
 #[cfg(test)]
 mod tests;
 mod twenty;

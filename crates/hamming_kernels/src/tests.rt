@@ -4,8 +4,8 @@ use std::process::Abort;
 // A code of ones and one whose last bit alone is set, against a query of zeros.
 fn check<K: Kernel>(rt: &impl Abort, kernel: &K) {
     let size = kernel.size();
-    assert!(rt; size <= 20);
-    let mut run = [0; 40];
+    assert!(rt; size <= 67);
+    let mut run = [0; 134];
     run[..size].fill(0xff);
     run[2 * size - 1] = 0x80;
     let mut out = [0; 2];
@@ -16,9 +16,11 @@ fn check<K: Kernel>(rt: &impl Abort, kernel: &K) {
 
 #[test]
 fn kernels_count_differing_bits(rt: HostRuntime) {
-    let zeros = [0; 20];
+    let zeros = [0; 67];
     check(&rt, &Half::prepare(&zeros[..4]));
     check(&rt, &Words::<2>::prepare(&zeros[..16]));
-    check(&rt, &Twenty::prepare(&zeros));
-    check(&rt, &General::prepare(&zeros[..3]));
+    check(&rt, &Twenty::prepare(&zeros[..20]));
+    for size in 1..=67 {
+        check(&rt, &General::prepare(&zeros[..size]));
+    }
 }

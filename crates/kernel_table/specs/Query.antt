@@ -1,7 +1,8 @@
 -- The query of the chosen kernel.
 use Rattle.std.specs.Prelude.{ℕ, List}
 use Rattle.kernel_table.specs.declared.prepared.Chosen.{Chosen}
-use Rattle.kernel_table.specs.declared.prepared.Chosen.TheVariants.{Half, OneWord, TwoWords, Twenty, FourWords, EightWords, General}
+use Rattle.kernel_table.specs.declared.prepared.Chosen.TheVariants.{Half, OneWord, TwoWords, Twenty, FourWords}
+use Rattle.kernel_table.specs.declared.prepared.Chosen.TheVariants.{EightWords, General}
 
 -- each kernel is seen as the bytes of its query
 abbrev pub query_of : Chosen → List ℕ
