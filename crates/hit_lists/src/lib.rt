@@ -3,6 +3,9 @@
 
 mod best_k;
 mod range_hits;
+mod runs;
+mod seat;
+mod slot_table;
 
 pub use best_k::BestK;
 pub use range_hits::RangeHits;
