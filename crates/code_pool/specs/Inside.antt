@@ -1,19 +1,38 @@
--- What a pool and its lists keep inside.
-use Rattle.std.specs.Prelude.{◌≡◌, ℕ, ◌+◌, ◌*◌, ◌^◌, ◌≤◌, ℤ, FitsSigned, List, length}
+-- What a pool and its rows keep inside.
+use Rattle.std.specs.Prelude.{◌≡◌, ℕ, ◌-◌, ◌*◌, ◌<◌, ◌≤◌, ℤ, FitsSigned, List, length, map, drop, slice_index_or}
 use Rattle.std.specs.Int.{w64}
-use Rattle.std.specs.List.{All}
-use Rattle.code_pool.specs.Lists.{SizedList, IsPoolRow}
+use Rattle.std.specs.List.{All, range_with_len}
+use Rattle.bcodes.specs.Value.{Row}
+use Rattle.code_pool.specs.Lists.{SizedRows, PoolList, PoolLists, no_row}
+use Rattle.code_pool.specs.Chains.{Held, BlockChains, chain_at, place_of}
 
--- labels and their codes, with room for `spare` more
-pub record HasRoom (labels : List ℤ) (labels_len labels_capacity codes_len codes_capacity code_size spare : ℕ) : Type 0 where
-  pub whole : codes_len ≡ labels_len * code_size
-  pub labels_room : labels_len + spare ≤ labels_capacity
-  pub codes_room : codes_len + spare * code_size ≤ codes_capacity
+-- labels and their codes
+pub record IsRows (code_size : ℕ) (labels : List ℤ) (codes : List ℕ) : Type 0 where
+  pub whole : length codes ≡ length labels * code_size
   pub fit : All (FitsSigned w64) labels
 
--- lists of one code size whose rows are those of a pool, not more than a pool may have
-pub record IsPool (n : ℕ) (lists : List SizedList) : Type 0 where
-  pub size : n ≤ 8192
-  pub few : length lists ≤ 2 ^ 31
-  pub sizes : All (λ l. l.code_size ≡ n) lists
-  pub rows : All (λ l. All (IsPoolRow n) l.list.rows) lists
+-- the rows of a list among all rows
+abbrev pub rows_of : List Row → Held → List Row
+rows_of rows h = map (λ k. slice_index_or rows (place_of h.blocks k) no_row) (range_with_len 0 h.len)
+
+-- a list, by its blocks among all rows
+abbrev pub list_in : List Row → Held → PoolList
+list_in rows h = record { rows = rows_of rows h; spare = 4 * length h.blocks - h.len }
+
+-- the lists of a pool, by all rows and the chains of blocks
+abbrev pub pool_in : SizedRows → BlockChains → PoolLists
+pool_in r b = record {
+  code_size = r.code_size;
+  lists = map (list_in r.rows) (drop 1 b.chains);
+  free = length
+      (chain_at b 0).blocks;
+}
+
+-- rows for all blocks, and blocks for the rows of each list
+pub record IsPool (r : SizedRows) (b : BlockChains) : Type 0 where
+  pub size : r.code_size ≤ 8192
+  pub chains : 0 < length b.chains
+  pub rows : 4 * b.all ≤ length r.rows
+  pub most : length r.rows ≤ 17179869176
+  pub lens : (c : ℕ) → (chain_at b c).len ≤ 4 * length (chain_at b c).blocks
+  pub free_len : (chain_at b 0).len ≡ 0

@@ -1,9 +1,7 @@
-use Rattle.std.proofs.Common.{ap, ◌∙◌}
-use Rattle.code_pool.specs.Lists.{list_of, with_list}
-use Rattle.code_pool.proofs.PoolLemmas.{one_replaced}
+use Rattle.code_pool.proofs.PoolLemmas.{list_emptied}
 use Rattle.code_pool.proofs.pool.Pool.give_back.Goals as goal
 
-pub returns : goal.returns
-returns g c =
-    one_replaced c.self.inside.code_size c.self.inside.lists.items c.args.self.now c.args.list c.new.result c.self.view_is
-    ∙ ap (with_list c.args.self.now c.args.list) (ap list_of c.new.ensures)
+pub returns-clause-lists : goal.returns-clause-lists
+returns-clause-lists g c =
+    list_emptied c.args.self.now c.cut.new.self c.give_blocks.new.self c.args.list c.blocks-2.result c.requires
+    c.cut.ensures c.blocks-2.ensures.whole c.give_blocks.ensures

@@ -1,0 +1,15 @@
+use Rattle.std.proofs.Common.{◌≡◌, ◌+◌, ◌-◌, ◌≤◌, length, get_or}
+use Rattle.code_pool.specs.Chains.{IsTied, chain_at}
+use Rattle.code_pool.proofs.blocks.Blocks.side_by_side.Given as goal
+
+abbrev pub invariant-loop-count : goal.invariant-loop-count
+invariant-loop-count l = record {
+  some : 1 ≤ l.count;
+  most : l.count ≤ l.most;
+  within : l.at + l.count ≤ length (chain_at l.self (l.list + 1)).blocks;
+  last : l.last ≡ get_or (chain_at l.self (l.list + 1)).blocks l.at 0 + (l.count - 1);
+  tied : IsTied (chain_at l.self (l.list + 1)).blocks l.at l.count;
+}
+
+abbrev pub decreases-loop-count : goal.decreases-loop-count
+decreases-loop-count l = l.most - l.count

@@ -1,0 +1,188 @@
+ghost use Rattle.std.specs.Prelude.{◌≡◌, ℕ, ◌+◌, ◌-◌, ◌*◌, ◌<◌, ◌≤◌, ◌^◌, [], ◌∷◌, ◌++◌, length};
+ghost use Rattle.std.specs.Prelude.{map, take, drop, slice_index, slice_set, vec_len, vec_capacity};
+ghost use Rattle.std.specs.Prelude.{replicate, IsOk, OnOk, OnErr};
+ghost use Rattle.std.specs.List.{All};
+ghost use Rattle.code_pool.specs.Lists.{IsPoolRow, label_of, row_in, row_of, rows_in};
+
+use crate::run::Run;
+use std::alloc::{AllocError, Global};
+use std::marker::Model;
+
+/// Rows by their places: their labels, and the bytes of their codes one after the other.
+#[derive(Debug, Drop)]
+pub struct Rows {
+    code_size: usize,
+    labels: Vec<i64>,
+    codes: Vec<u8>,
+}
+
+impl Model for Rows {
+    ghost use Rattle.code_pool.specs.Lists.{SizedRows, rows_in};
+    ghost use Rattle.code_pool.specs.Inside.{IsRows};
+
+    ghost Value = { SizedRows };
+
+    ghost view = { λ r. record {
+      code_size = r.code_size;
+      rows = rows_in r.code_size r.labels.items r.codes.items;
+    } };
+
+    ghost invariant = { λ r. IsRows r.code_size r.labels.items r.codes.items };
+}
+
+impl Rows {
+    /// No rows. It takes no memory.
+    pub fn new(alloc: Global, code_size: usize) -> Rows
+        ensures { result ≡ record { code_size = code_size; rows = [] } }
+    {
+        Rows {
+            code_size,
+            labels: Vec::new(alloc),
+            codes: Vec::new(alloc),
+        }
+    }
+
+    /// The number of rows.
+    pub fn len(&self) -> usize
+        ensures value { result ≡ length self.now.rows }
+        ensures rows { All (IsPoolRow self.now.code_size) self.now.rows }
+    {
+        are_bytes(&self.codes);
+        self.labels.len()
+    }
+
+    /// Makes them `n` rows. Nobody reads a new row before it is written. An error leaves all as it
+    /// was.
+    pub fn grow(&mut self, n: usize) -> Result<(), AllocError>
+        requires more { length self.old.rows ≤ n }
+        requires few { n * self.old.code_size < 2 ^ 63 }
+        ensures ok { OnOk result (length self.new.rows ≡ n) }
+        ensures rows { take (length self.old.rows) self.new.rows ≡ self.old.rows }
+        ensures size { self.new.code_size ≡ self.old.code_size }
+        ensures err { OnErr result (self.new ≡ self.old) }
+        ensures none { n ≡ length self.old.rows → IsOk result }
+    {
+        if n == self.labels.len() {
+            return Ok(());
+        }
+        let more = n - self.labels.len();
+        self.labels.reserve(more)?;
+        self.codes.reserve(more * self.code_size)?;
+        fill(&mut self.labels, n, 0);
+        fill(&mut self.codes, n * self.code_size, 0);
+        Ok(())
+    }
+
+    /// Writes the row at a place.
+    pub fn write(&mut self, at: usize, label: i64, code: &[u8])
+        requires within { at < length self.old.rows }
+        requires size { length code.now ≡ self.old.code_size }
+        ensures { self.new
+            ≡ record self.old { rows = slice_set self.old.rows at (row_of label code.now) } }
+    {
+        write_code(&mut self.codes, self.labels.len(), self.code_size, at, code);
+        self.labels[at] = label;
+    }
+
+    /// Copies the row at one place to another.
+    pub fn copy(&mut self, from: usize, to: usize)
+        requires from { from < length self.old.rows }
+        requires to { to < length self.old.rows }
+        ensures { self.new
+            ≡ record self.old { rows = slice_set self.old.rows to (row_in self.old from) } }
+    {
+        copy_code(&mut self.codes, self.labels.len(), self.code_size, from, to);
+        let label = self.labels[from];
+        self.labels[to] = label;
+    }
+
+    /// The `n` rows from place `from` on, without copying.
+    pub fn run(&self, from: usize, n: usize) -> Run<'_>
+        requires { from + n ≤ length self.now.rows }
+        ensures labels { length result.labels.now ≡ n }
+        ensures codes { length result.codes.now ≡ n * self.now.code_size }
+        ensures rows { rows_in self.now.code_size result.labels.now result.codes.now
+            ≡ take n (drop from self.now.rows) }
+    {
+        run_of(&self.labels, &self.codes, self.code_size, from, n)
+    }
+
+    /// The labels of the `n` rows from place `from` on.
+    pub fn labels(&self, from: usize, n: usize) -> &[i64]
+        requires { from + n ≤ length self.now.rows }
+        ensures { result.now ≡ take n (drop from (map label_of self.now.rows)) }
+    {
+        labels_of(&self.labels, from, n)
+    }
+}
+
+// The n rows from place `from` on.
+fn run_of<'a>(
+    labels: &'a [i64],
+    codes: &'a [u8],
+    code_size: usize,
+    from: usize,
+    n: usize,
+) -> Run<'a>
+    requires within { from + n ≤ length labels.now }
+    requires whole { length codes.now ≡ length labels.now * code_size }
+    ensures labels { result.labels.now ≡ take n (drop from labels.now) }
+    ensures codes { result.codes.now ≡ take (n * code_size) (drop (from * code_size) codes.now) }
+{
+    let start = from * code_size;
+    Run {
+        labels: &labels[from..from + n],
+        codes: &codes[start..start + n * code_size],
+    }
+}
+
+// The n labels from place `from` on.
+fn labels_of(labels: &[i64], from: usize, n: usize) -> &[i64]
+    requires { from + n ≤ length labels.now }
+    ensures { result.now ≡ take n (drop from labels.now) }
+{
+    &labels[from..from + n]
+}
+
+// Writes the code of the row at a place among so many rows.
+fn write_code(codes: &mut Vec<u8>, rows: usize, code_size: usize, at: usize, code: &[u8])
+    requires within { at < rows }
+    requires whole { length codes.old.items ≡ rows * code_size }
+    requires size { length code.now ≡ code_size }
+    ensures { codes.new.items ≡ take (at * code_size) codes.old.items
+        ++ (code.now ++ drop (at * code_size + code_size) codes.old.items) }
+{
+    let start = at * code_size;
+    codes[start..start + code_size].copy_from_slice(code);
+}
+
+// Copies the code of the row at one place to another.
+fn copy_code(codes: &mut Vec<u8>, rows: usize, code_size: usize, from: usize, to: usize)
+    requires from { from < rows }
+    requires to { to < rows }
+    requires whole { length codes.old.items ≡ rows * code_size }
+    ensures { codes.new.items ≡ take (to * code_size) codes.old.items
+        ++ (take code_size (drop (from * code_size) codes.old.items)
+        ++ drop (to * code_size + code_size) codes.old.items) }
+{
+    let start = from * code_size;
+    codes.copy_within(start..start + code_size, to * code_size);
+}
+
+// Makes a table n entries long, in the room that it has.
+fn fill<T: Copy>(entries: &mut Vec<T>, n: usize, entry: T)
+    requires more { vec_len entries.old ≤ n }
+    requires room { n ≤ vec_capacity entries.old }
+    ensures { entries.new.items
+        ≡ entries.old.items ++ replicate (n - length entries.old.items) entry }
+{
+    match entries.resize(n, entry) {
+        Ok(()) => {}
+        Err(_) => unreachable!(),
+    }
+}
+
+// For proofs: bytes are below 256.
+fn are_bytes(bytes: &[u8])
+    ensures { (i : ℕ) → slice_index bytes.now i < 2 ^ 8 }
+{}
