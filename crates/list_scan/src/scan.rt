@@ -1,0 +1,191 @@
+ghost use Rattle.std.specs.Prelude.{◌≡◌, ◌+◌, ◌*◌, ◌<◌, ◌≤◌, ◌⊎◌, List, ◌++◌, length, min, vec_len};
+ghost use Rattle.std.specs.Prelude.{IfOk, OnOk};
+ghost use Rattle.std.specs.List.{All};
+ghost use Rattle.bcodes.specs.declared.hit.Hit.{Hit};
+ghost use Rattle.bcodes.specs.Ranges.{raised};
+ghost use Rattle.code_pool.specs.Lists.{rows_in, run_rows};
+ghost use Rattle.list_scan.specs.Visited.{below, first, hits_on, rows_at, rows_on};
+
+use bcodes::{Ledger, Meter, Want};
+use code_pool::{Pool, RUN_ROWS, Run};
+use hit_lists::{BestK, RangeHits};
+use kernel_table::{Kernel, Prepared};
+use std::alloc::Global;
+
+/// Room for the distances of any one run of a list of `count` rows.
+pub fn room_for_run(alloc: Global, count: usize) -> Result<Vec<u32>, Want>
+    ensures { IfOk result (λ room. vec_len room ≡ min count run_rows) }
+{
+    vec![in alloc; 0; count.min(RUN_ROWS)]
+}
+
+/// Offers every row of a list to the `k` best, as Faiss's `InvertedListScanner::scan_codes` does.
+///
+/// The meter's `lent` rises by the number of rows. `distances` is room to work in: it has a place
+/// for each row of a run, and what it holds afterwards means nothing. It takes no memory.
+pub fn offer_list<L: Ledger>(
+    pool: &Pool<L>,
+    list: u32,
+    best: &mut BestK,
+    kernel: &Prepared<'_>,
+    distances: &mut [u32],
+    meter: &mut Meter<L>,
+)
+    requires exists { list < length pool.now.lists }
+    requires size { pool.now.code_size ≡ length kernel.now }
+    requires bits { best.old.bits ≡ 8 * length kernel.now }
+    requires written { min (length (rows_on pool.now list)) run_rows ≤ length distances.old }
+    requires room { length best.old.items + length (rows_on pool.now list) ≤ best.old.most }
+    ensures items { (hits : List Hit) → best.old.items ≡ first best.old.k hits
+        → best.new.items ≡ first best.old.k (hits ++ hits_on kernel.now (rows_on pool.now list)) }
+    ensures grown { length best.new.items ≤ length best.old.items + length (rows_on pool.now list) }
+    ensures k { best.new.k ≡ best.old.k }
+    ensures most { best.new.most ≡ best.old.most }
+    ensures bits { best.new.bits ≡ best.old.bits }
+    ensures lent { meter.new
+        ≡ record meter.old { lent = raised meter.old.lent (length (rows_on pool.now list)) } }
+    ensures rises { meter.old.lent ≤ meter.new.lent }
+{
+    let count = pool.len(list);
+    let mut at = 0;
+    while at < count {
+        let run = pool.lend(list, at, meter);
+        at += run.labels.len();
+        offer_run(best, kernel, run, distances);
+    }
+}
+
+/// Offers every row of some lists to the `k` best, one list after the other. The rest is as in
+/// `offer_list`.
+pub fn offer_lists<L: Ledger>(
+    pool: &Pool<L>,
+    lists: &[u32],
+    best: &mut BestK,
+    kernel: &Prepared<'_>,
+    distances: &mut [u32],
+    meter: &mut Meter<L>,
+)
+    requires exist { All (λ l. l < length pool.now.lists) lists.now }
+    requires size { pool.now.code_size ≡ length kernel.now }
+    requires bits { best.old.bits ≡ 8 * length kernel.now }
+    requires written { All (λ l. min (length (rows_on pool.now l)) run_rows
+        ≤ length distances.old) lists.now }
+    requires room { length best.old.items + length (rows_at pool.now lists.now) ≤ best.old.most }
+    ensures items { (hits : List Hit) → best.old.items ≡ first best.old.k hits
+        → best.new.items
+        ≡ first best.old.k (hits ++ hits_on kernel.now (rows_at pool.now lists.now)) }
+    ensures grown { length best.new.items
+        ≤ length best.old.items + length (rows_at pool.now lists.now) }
+    ensures k { best.new.k ≡ best.old.k }
+    ensures most { best.new.most ≡ best.old.most }
+    ensures bits { best.new.bits ≡ best.old.bits }
+    ensures lent { meter.new
+        ≡ record meter.old { lent = raised meter.old.lent (length (rows_at pool.now lists.now)) } }
+    ensures rises { meter.old.lent ≤ meter.new.lent }
+{
+    for list in lists {
+        offer_list(pool, *list, best, kernel, distances, meter);
+    }
+}
+
+/// Adds the rows of a list whose distance from the query is strictly below `radius`, as Faiss's
+/// `InvertedListScanner::scan_codes_range` does.
+///
+/// The meter's `lent` rises by the number of rows, and where memory ends the scan by no more than
+/// that. `distances` is as in `offer_list`.
+pub fn offer_list_below<L: Ledger>(
+    pool: &Pool<L>,
+    list: u32,
+    found: &mut RangeHits,
+    radius: u32,
+    kernel: &Prepared<'_>,
+    distances: &mut [u32],
+    meter: &mut Meter<L>,
+) -> Result<(), Want>
+    requires exists { list < length pool.now.lists }
+    requires size { pool.now.code_size ≡ length kernel.now }
+    requires written { min (length (rows_on pool.now list)) run_rows ≤ length distances.old }
+    ensures items { OnOk result (found.new.items
+        ≡ found.old.items ++ below radius (hits_on kernel.now (rows_on pool.now list))) }
+    ensures lent { OnOk result
+        (meter.new.lent ≡ raised meter.old.lent (length (rows_on pool.now list))) }
+    ensures lent_least { meter.old.lent ≤ meter.new.lent }
+    ensures lent_most { meter.new.lent ≤ meter.old.lent + length (rows_on pool.now list) }
+    ensures asked { meter.new.asked ≡ meter.old.asked }
+{
+    let count = pool.len(list);
+    let mut at = 0;
+    while at < count {
+        let run = pool.lend(list, at, meter);
+        at += run.labels.len();
+        found.reserve(run.labels.len())?;
+        offer_run_below(found, radius, kernel, run, distances);
+    }
+    Ok(())
+}
+
+/// Adds the rows of some lists whose distance from the query is strictly below `radius`, one list
+/// after the other. The rest is as in `offer_list_below`.
+pub fn offer_lists_below<L: Ledger>(
+    pool: &Pool<L>,
+    lists: &[u32],
+    found: &mut RangeHits,
+    radius: u32,
+    kernel: &Prepared<'_>,
+    distances: &mut [u32],
+    meter: &mut Meter<L>,
+) -> Result<(), Want>
+    requires exist { All (λ l. l < length pool.now.lists) lists.now }
+    requires size { pool.now.code_size ≡ length kernel.now }
+    requires written { All (λ l. min (length (rows_on pool.now l)) run_rows
+        ≤ length distances.old) lists.now }
+    ensures items { OnOk result (found.new.items
+        ≡ found.old.items ++ below radius (hits_on kernel.now (rows_at pool.now lists.now))) }
+    ensures lent { OnOk result
+        (meter.new.lent ≡ raised meter.old.lent (length (rows_at pool.now lists.now))) }
+    ensures lent_least { meter.old.lent ≤ meter.new.lent }
+    ensures lent_most { meter.new.lent ≤ meter.old.lent + length (rows_at pool.now lists.now) }
+    ensures asked { meter.new.asked ≡ meter.old.asked }
+{
+    for list in lists {
+        offer_list_below(pool, *list, found, radius, kernel, distances, meter)?;
+    }
+    Ok(())
+}
+
+// Offers each row of a run, with its distance from the query.
+fn offer_run(best: &mut BestK, kernel: &Prepared<'_>, run: Run<'_>, distances: &mut [u32])
+    requires bits { best.old.bits ≡ 8 * length kernel.now }
+    requires whole { length run.codes.now ≡ length run.labels.now * length kernel.now }
+    requires written { length run.labels.now ≤ length distances.old }
+    requires room { (length best.old.items + length run.labels.now ≤ best.old.most)
+        ⊎ (length best.old.items ≡ best.old.k) }
+    ensures items { best.new.items ≡ first best.old.k (best.old.items ++ hits_on kernel.now
+        (rows_in (length kernel.now) run.entry.labels.now run.entry.codes.now)) }
+    ensures k { best.new.k ≡ best.old.k }
+    ensures most { best.new.most ≡ best.old.most }
+    ensures bits { best.new.bits ≡ best.old.bits }
+{
+    let part = &mut distances[..run.labels.len()];
+    kernel.scan(run.codes, part);
+    best.offer_all(run.labels, part);
+}
+
+// Adds the rows of a run whose distance from the query is strictly below the radius.
+fn offer_run_below(
+    found: &mut RangeHits,
+    radius: u32,
+    kernel: &Prepared<'_>,
+    run: Run<'_>,
+    distances: &mut [u32],
+)
+    requires whole { length run.codes.now ≡ length run.labels.now * length kernel.now }
+    requires written { length run.labels.now ≤ length distances.old }
+    requires room { length run.labels.now ≤ found.old.spare }
+    ensures { found.new.items ≡ found.old.items ++ below radius (hits_on kernel.now
+        (rows_in (length kernel.now) run.entry.labels.now run.entry.codes.now)) }
+{
+    let part = &mut distances[..run.labels.len()];
+    kernel.scan(run.codes, part);
+    found.offer_below(radius, run.labels, part);
+}
