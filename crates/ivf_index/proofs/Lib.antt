@@ -1,0 +1,15 @@
+pub mod TableLemmas
+pub mod LegalIvf
+pub mod NewLemmas
+pub mod PairedLemmas
+pub mod RoomLemmas
+pub mod PutLemmas
+pub mod NearLemmas
+pub mod VisitLemmas
+pub mod NumberingLemmas
+pub mod DirectLemmas
+pub mod AddLemmas
+pub mod FoundLemmas
+pub mod PlaceLemmas
+pub mod SettingLemmas
+pub mod NearestLemmas

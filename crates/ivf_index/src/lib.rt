@@ -1,0 +1,14 @@
+//! The index that keeps codes on the lists of their nearest centroids, Faiss's `IndexBinaryIVF`.
+#![tactic(auto)]
+
+mod centroid_error;
+mod direct_map;
+mod ivf;
+mod label_places;
+mod near;
+mod nearest;
+mod room;
+mod table;
+
+pub use centroid_error::CentroidError;
+pub use ivf::Ivf;
