@@ -1,0 +1,10 @@
+//! The index that keeps codes in buckets by the key of their first bits, Faiss's `IndexBinaryHash`.
+#![tactic(auto)]
+
+mod hash;
+pub mod laws;
+mod near;
+mod put;
+mod room;
+
+pub use hash::Hash;
