@@ -1,5 +1,15 @@
-//! Reads a script from standard input, and writes the answers to standard output.
+//! Reads a script from standard input, and writes the replies to standard output.
+//!
+//! What the program does is [`run`], whose contract says it all. No contract reaches the rest,
+//! which is this file: that `run` is handed the words of the command line, standard input and
+//! standard output, that the program ends with the status of [`exit_code`], and that wrong words
+//! are answered with the line of [`usage`] on standard error. The script `examples/statuses.sh`
+//! runs the program and checks these.
 #![tactic(auto)]
+
+ghost use Rattle.std.specs.Prelude.{◌≡◌};
+ghost use Rattle.std.specs.Process.{exit_status};
+ghost use Rattle.faissb_core.specs.Runs.Statuses.{status_code};
 
 use faissb_core::{Status, run, usage};
 use outside::{InputSource, OutputSink, SureShelf};
@@ -21,6 +31,13 @@ fn run_words(rt: &HostRuntime, words: &[String]) -> Status {
     run(rt.alloc(), words, &mut script, &mut out, &mut shelf)
 }
 
+// The exit status of the program.
+fn exit_code(status: Status) -> ExitCode
+    ensures { exit_status result ≡ status_code status }
+{
+    ExitCode::from(status.code())
+}
+
 fn main(rt: HostRuntime) -> ExitCode {
     let status = match words_of(&rt) {
         Ok(words) => run_words(&rt, &words),
@@ -32,5 +49,5 @@ fn main(rt: HostRuntime) -> ExitCode {
         // Where standard error takes nothing, the exit status says it alone.
         let _ = eprintln!(rt; "{}", usage());
     }
-    ExitCode::from(status.code())
+    exit_code(status)
 }

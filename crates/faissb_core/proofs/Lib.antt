@@ -1,18 +1,5 @@
-pub mod AddLemmas
-pub mod AppliedLemmas
-pub mod CommandLemmas
-pub mod GrownLemmas
-pub mod KeptLemmas
-pub mod LineLemmas
-pub mod LegalLemmas
-pub mod MachineLemmas
-pub mod MarkedLemmas
-pub mod MeterLemmas
-pub mod ProgressLemmas
-pub mod ReachedLemmas
+pub mod LanguageLemmas
+pub mod ReplyLemmas
+pub mod SessionLemmas
 pub mod RunLemmas
-pub mod SentLemmas
-pub mod StopLemmas
-pub mod StoppedLemmas
-pub mod WordLemmas
-pub mod WordsLeft
+mod Worked

@@ -1,11 +1,22 @@
 //! What the definitions themselves keep, as the contracts of calls that do nothing.
-ghost use Rattle.std.specs.Prelude.{◌≡◌, ℕ, List, true, is_some};
+ghost use Rattle.std.specs.Prelude.{◌≡◌, ℕ, List, true, is_some, is_err, IsTrue};
 ghost use Rattle.outside.specs.Contents.{Files};
-ghost use Rattle.faissb_core.specs.Inside.{IsLegalState};
-ghost use Rattle.faissb_core.specs.Machine.{State, step};
+ghost use Rattle.faissb_core.specs.Machine.Legal.{IsLegalState};
+ghost use Rattle.faissb_core.specs.Machine.State.{State};
+ghost use Rattle.faissb_core.specs.Machine.Step.{step};
 
-/// From no index or a legal value a step gives no index or a legal value, and from a legal value it gives a legal value.
+/// From a legal state a step leads to a legal one, and it leaves an index where there was one.
 pub fn steps_keep_legal()
-    ensures legal { (state : State) (files : Files) (line : List ℕ) → IsLegalState state → IsLegalState (step state files line).state }
-    ensures some { (state : State) (files : Files) (line : List ℕ) → IsLegalState state → is_some state ≡ true → is_some (step state files line).state ≡ true }
+    ensures legal { (s : State) (files : Files) (line : List ℕ) → IsLegalState s
+        → IsLegalState (step s files line).state }
+    ensures index_stays { (s : State) (files : Files) (line : List ℕ) → IsLegalState s
+        → is_some s.index ≡ true → is_some (step s files line).state.index ≡ true }
+{}
+
+/// A refused line leaves the state and the files.
+pub fn refused_steps_stay()
+    ensures state { (s : State) (files : Files) (line : List ℕ)
+        → IsTrue (is_err (step s files line).reply) → (step s files line).state ≡ s }
+    ensures files { (s : State) (files : Files) (line : List ℕ)
+        → IsTrue (is_err (step s files line).reply) → (step s files line).files ≡ files }
 {}

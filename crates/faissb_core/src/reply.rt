@@ -1,31 +1,12 @@
-ghost use Rattle.std.specs.Prelude.{◌≡◌};
+// Replies and their texts.
+mod factory_word;
+mod outgoing;
+mod refusal;
+mod reply;
+mod send;
+mod text;
 
-use crate::Refusal;
-use bcodes::Hits;
-
-/// What a line is answered.
-#[derive(Debug, Drop)]
-pub enum Reply {
-    /// A line without a command: no text.
-    Silent,
-    /// A command that only changes something.
-    Done,
-    /// How many codes were added, and how many there are then.
-    Added(u64, u64),
-    /// The hits, how many codes were looked at, and whether the answer is marked as exact.
-    Found(Hits, u64, bool),
-    /// The command changed nothing.
-    Refused(Refusal),
-}
-
-impl Reply {
-    ghost use Rattle.faissb_core.specs.Answer.{is_refusal};
-    ghost use Rattle.faissb_core.specs.Applied.{answer_of};
-
-    /// Whether the command was refused.
-    pub fn is_refused(&self) -> bool
-        ensures { result ≡ is_refusal (answer_of self.now) }
-    {
-        matches!(self, Reply::Refused(_))
-    }
-}
+pub use factory_word::FactoryWord;
+pub use refusal::Refusal;
+pub use reply::Reply;
+pub use text::write_reply;

@@ -1,8 +1,13 @@
-//! Scripts with their answers, worked out by hand, and the tests that run them. It has no item of its own.
+//! Scripts with the replies that they must get, and the tests that run them.
+//!
+//! The replies were worked out by hand from the definitions, and not taken from the program. The
+//! crate has no item of its own.
 #![tactic(auto)]
 
 #[cfg(test)]
 mod built;
+#[cfg(test)]
+mod row;
 #[cfg(test)]
 mod rows;
 #[cfg(test)]

@@ -1,20 +1,23 @@
 // The run of one script.
 ghost use Rattle.std.specs.Prelude.{◌≡◌, ◌≢◌, ◌≤◌, IfOk, length, string_bytes};
 ghost use Rattle.outside.specs.Contents.{no_contents};
-ghost use Rattle.faissb_core.specs.Machine.{script_text, script_refuses};
-ghost use Rattle.faissb_core.specs.Statuses.{status_for};
-ghost use Rattle.faissb_core.specs.declared.TheConstants.{SCRIPT_LIMIT};
+ghost use Rattle.faissb_core.specs.Machine.Script.{script_text, script_refuses};
+ghost use Rattle.faissb_core.specs.Runs.Limits.{script_limit};
+ghost use Rattle.faissb_core.specs.Runs.Statuses.{status_for};
 
 use faissb_core::{Status, run};
 use outside::{SureShelf, SureSink, SureSource};
 use std::alloc::Global;
 use std::test::Fail;
 
-// What a script is answered, and how its run ends. No device fails here, so these are the machine's where memory lasts.
+// The replies to a script, and how its run ends. No device fails here, so they are those of the
+// plain machine if memory does not run out.
 pub fn answer(alloc: Global, script: &[u8]) -> Result<(String, Status), Fail>
-    ensures text { length script.now ≤ SCRIPT_LIMIT → IfOk result (λ answered. answered.1 ≢ Status.Memory
+    ensures text { length script.now ≤ script_limit → IfOk result (λ answered.
+        answered.1 ≢ Status.Memory
         → string_bytes answered.0 ≡ script_text script.now no_contents.files) }
-    ensures status { length script.now ≤ SCRIPT_LIMIT → IfOk result (λ answered. answered.1 ≢ Status.Memory
+    ensures status { length script.now ≤ script_limit → IfOk result (λ answered.
+        answered.1 ≢ Status.Memory
         → answered.1 ≡ status_for (script_refuses script.now no_contents.files)) }
 {
     let words = vec![in alloc; String::from_str(alloc, "script")?]?;

@@ -1,8 +1,8 @@
-use Rattle.faissb_core.proofs.LegalLemmas.{step_follows}
+use Rattle.faissb_core.proofs.SessionLemmas.LegalLemmas.{step_follows}
 use Rattle.faissb_core.proofs.laws.steps_keep_legal.Goals as goal
 
 pub returns-clause-legal : goal.returns-clause-legal
-returns-clause-legal c = λ state files line legal. (step_follows state files line legal).legal
+returns-clause-legal c = λ s files line legal. (step_follows s files line legal).legal
 
-pub returns-clause-some : goal.returns-clause-some
-returns-clause-some c = λ state files line legal some. (step_follows state files line legal).some some
+pub returns-clause-index_stays : goal.returns-clause-index_stays
+returns-clause-index_stays c = λ s files line legal some. (step_follows s files line legal).some some

@@ -1,0 +1,10 @@
+use Rattle.faissb_core.specs.Language.Lines.{lines}
+use Rattle.faissb_core.specs.Machine.State.{start}
+use Rattle.faissb_core.proofs.SessionLemmas.MarkLemmas.{lines_are}
+use Rattle.faissb_core.proofs.runs.script.run.Goals as goal
+
+pub returns-then-is_script-clause-marked : goal.returns-then-is_script-clause-marked
+returns-then-is_script-clause-marked g c = λ bytes files. lines_are start files (lines bytes) (record { index = tt })
+
+pub returns-else-is_script-clause-marked : goal.returns-else-is_script-clause-marked
+returns-else-is_script-clause-marked g c = λ bytes files. lines_are start files (lines bytes) (record { index = tt })

@@ -1,0 +1,23 @@
+use Rattle.std.proofs.Common.{◌≡◌, Ok, None, sym, ◌∙◌}
+use Rattle.faissb_core.specs.Session.Results.{settled}
+use Rattle.faissb_core.proofs.SessionLemmas.OutcomeLemmas.{applied_line, refused_line, step_replies}
+use Rattle.faissb_core.proofs.SessionLemmas.MarkLemmas.{reply_is}
+use Rattle.faissb_core.proofs.session.session.Session.apply.Goals as goal
+
+pub returns-clause-ok : goal.returns-clause-ok
+returns-clause-ok g c = λ files fits.
+    let settles : settled c.obey.result ≡ Ok c.in_ok-reply.reply = sym c.settle.ensures.value ∙ c.in_ok-reply.was in
+    applied_line _ files _ _ _ _ _ c.obey.result _ c.read_line.ensures fits
+    (c.obey.ensures.ok files) c.obey.ensures.err settles
+
+pub returns-clause-refused : goal.returns-clause-refused
+returns-clause-refused g c =
+    let settles : settled c.obey.result ≡ Ok c.in_ok-reply.reply = sym c.settle.ensures.value ∙ c.in_ok-reply.was in
+    refused_line _ _ _ _ c.obey.result _ (c.obey.ensures.ok (λ _. None)) c.obey.ensures.err settles
+
+pub returns-clause-marked : goal.returns-clause-marked
+returns-clause-marked g c =
+    let settles : settled c.obey.result ≡ Ok c.in_ok-reply.reply = sym c.settle.ensures.value ∙ c.in_ok-reply.was in
+    reply_is c.self.inside.index _ (λ _. None) c.args.line.now _ c.self.view_is
+    (step_replies _ (λ _. None) c.args.line.now _ _ c.obey.result _ c.read_line.ensures
+    (c.obey.ensures.ok (λ _. None)) c.obey.ensures.err settles)

@@ -1,0 +1,48 @@
+-- What the mark `exact` promises.
+use Rattle.std.specs.Prelude.{◌≡◌, ℕ, List, [], ◌∷◌, true, Ok, Err}
+use Rattle.bcodes.specs.declared.hit.Hit.{Hit}
+use Rattle.bcodes.specs.Value.{IndexValue, code_size}
+use Rattle.bcodes.specs.Answers.{scan_best, scan_within}
+use Rattle.outside.specs.Contents.{Files}
+use Rattle.faissb_core.specs.declared.reply.refusal.Refusal.TheVariants.{Line as NoQuery}
+use Rattle.faissb_core.specs.Language.Words.{Word}
+use Rattle.faissb_core.specs.Language.Command.{IndexQuestion, Search, Range, Ask}
+use Rattle.faissb_core.specs.Language.Lines.{Line, Whole, line_of}
+use Rattle.faissb_core.specs.Reply.Answer.{Answer, Found}
+use Rattle.faissb_core.specs.Machine.Checked.{Checked, ◌>>=◌}
+use Rattle.faissb_core.specs.Machine.State.{State, index_of, code_of}
+use Rattle.faissb_core.specs.Machine.Step.{step}
+
+-- the hits of a scan of all rows
+abbrev pub best_scan : ℕ → Word → IndexValue → Checked (List Hit)
+best_scan k word v = do
+  q ← code_of (code_size v) word
+  Ok (scan_best v q k)
+
+abbrev pub range_scan : ℕ → Word → IndexValue → Checked (List Hit)
+range_scan radius word v = do
+  q ← code_of (code_size v) word
+  Ok (scan_within v q radius)
+
+abbrev pub question_scan : IndexQuestion → IndexValue → Checked (List Hit)
+question_scan (Search k word) v = best_scan k word v
+question_scan (Range radius word) v = range_scan radius word v
+
+-- what a line is answered by a full scan, where it is a query
+abbrev pub scan_of : Line → State → Checked (List Hit)
+scan_of (Whole (Ask question)) s = do
+  v ← index_of s
+  question_scan question v
+scan_of line s = Err NoQuery
+
+-- hits that are marked as exact are those of the full scan
+abbrev pub MarkedIsScan : Checked (List Hit) → Checked Answer → Type 0
+MarkedIsScan scan (Ok (Found hits lent true)) = scan ≡ Ok hits
+MarkedIsScan scan reply = Unit {0}
+
+-- so it is for each of some lines
+abbrev pub AllMarkedAreScans : State → Files → List (List ℕ) → Type 0
+AllMarkedAreScans s files [] = Unit {0}
+AllMarkedAreScans s files (line ∷ more) =
+    let done = step s files line in
+    MarkedIsScan (scan_of (line_of line) s) done.reply × AllMarkedAreScans done.state done.files more

@@ -1,0 +1,30 @@
+-- search and range.
+use Rattle.std.specs.Prelude.{ℕ, nat_le, Ok}
+use Rattle.bcodes.specs.Value.{IndexValue, code_size}
+use Rattle.bcodes.specs.Answers.{best, within, looked}
+use Rattle.bcodes.specs.Marks.{search_mark, range_mark}
+use Rattle.faissb_core.specs.declared.reply.refusal.Refusal.TheVariants.{Value}
+use Rattle.faissb_core.specs.Language.Words.{Word}
+use Rattle.faissb_core.specs.Reply.Answer.{Answer, Found}
+use Rattle.faissb_core.specs.Machine.Checked.{Checked, demand◌else◌, ◌>>=◌, ◌>>◌, is_within}
+use Rattle.faissb_core.specs.Machine.State.{code_of}
+
+-- the most hits that a search may be asked for
+abbrev pub k_limit : ℕ
+k_limit = 1048576
+
+-- the greatest radius of a range search
+abbrev pub radius_limit : ℕ
+radius_limit = 2147483647
+
+abbrev pub search : ℕ → Word → IndexValue → Checked Answer
+search k word v = do
+  q ← code_of (code_size v) word
+  demand is_within 1 k_limit k else Value
+  Ok (Found (best v q k) (looked v q) (search_mark v q k))
+
+abbrev pub range : ℕ → Word → IndexValue → Checked Answer
+range radius word v = do
+  q ← code_of (code_size v) word
+  demand nat_le radius radius_limit else Value
+  Ok (Found (within v q radius) (looked v q) (range_mark v q radius))

@@ -1,0 +1,57 @@
+-- What a line does.
+use Rattle.std.specs.Prelude.{ℕ, List, Some, Ok, Err}
+use Rattle.bcodes.specs.Value.{IndexValue}
+use Rattle.outside.specs.Contents.{Files}
+use Rattle.faissb_core.specs.declared.reply.refusal.Refusal.TheVariants.{Long, Line as NoCommand}
+use Rattle.faissb_core.specs.Language.Command.{IndexChange, Add, IndexQuestion, Search, Range}
+use Rattle.faissb_core.specs.Language.Command.{Command, New, Change, Ask}
+use Rattle.faissb_core.specs.Language.Lines.{Line, TooLong, Silent, Whole, Broken, line_of}
+use Rattle.faissb_core.specs.Reply.Answer.{Answer, Quiet, Done}
+use Rattle.faissb_core.specs.Machine.Checked.{Checked, ◌>>=◌}
+use Rattle.faissb_core.specs.Machine.State.{State, Outcome, leaves, Changed, index_of}
+use Rattle.faissb_core.specs.Machine.New.{new_index}
+use Rattle.faissb_core.specs.Machine.Adding.{add}
+use Rattle.faissb_core.specs.Machine.Queries.{search, range}
+
+-- what a change makes of the index
+abbrev pub change : IndexChange → IndexValue → Checked Changed
+change (Add words) v = add words v
+
+-- what the index answers
+abbrev pub ask : IndexQuestion → IndexValue → Checked Answer
+ask (Search k word) v = search k word v
+ask (Range radius word) v = range radius word v
+
+-- the state, the answer and the files after a command that is not refused
+abbrev pub command_outcome : Command → State → Files → Checked Outcome
+command_outcome (New bits text) s files = do
+  v ← new_index bits text
+  leaves (record s { index = Some v }) Done files
+command_outcome (Change c) s files = do
+  v ← index_of s
+  done ← change c v
+  leaves (record s { index = Some done.index }) done.answer files
+command_outcome (Ask question) s files = do
+  v ← index_of s
+  answer ← ask question v
+  leaves s answer files
+
+abbrev pub line_outcome : Line → State → Files → Checked Outcome
+line_outcome TooLong s files = Err Long
+line_outcome Silent s files = leaves s Quiet files
+line_outcome (Whole command) s files = command_outcome command s files
+line_outcome Broken s files = Err NoCommand
+
+-- the state and the files after a line, and the reply to it: an answer or a refusal
+pub record Step : Type 0 where
+  pub state : State
+  pub reply : Checked Answer
+  pub files : Files
+
+-- what is refused changes nothing
+abbrev pub step_with : State → Files → Checked Outcome → Step
+step_with s files (Ok done) = record { state = done.state; reply = Ok done.answer; files = done.files }
+step_with s files (Err refusal) = record { state = s; reply = Err refusal; files = files }
+
+unfoldable pub step : State → Files → List ℕ → Step
+step s files line = step_with s files (line_outcome (line_of line) s files)

@@ -1,0 +1,4 @@
+pub mod Answer
+pub mod Refusals
+pub mod Text
+pub mod Sent

@@ -1,0 +1,19 @@
+-- The words of a refusal.
+use Rattle.std.specs.Prelude.{ℕ, List, [], ◌∷◌, codes}
+use Rattle.faissb_core.specs.declared.reply.factory_word.FactoryWord.{FactoryWord}
+use Rattle.faissb_core.specs.declared.reply.factory_word.FactoryWord.TheVariants as word
+use Rattle.faissb_core.specs.declared.reply.refusal.Refusal.{Refusal}
+use Rattle.faissb_core.specs.declared.reply.refusal.Refusal.TheVariants as refusal
+
+abbrev pub factory_word : FactoryWord → List ℕ
+factory_word word.Unknown = codes "unknown"
+
+abbrev pub refusal_words : Refusal → List (List ℕ)
+refusal_words refusal.Long = codes "long" ∷ []
+refusal_words refusal.Line = codes "line" ∷ []
+refusal_words refusal.NoIndex = codes "none" ∷ []
+refusal_words refusal.Dim = codes "dim" ∷ []
+refusal_words (refusal.Factory word) = codes "factory" ∷ factory_word word ∷ []
+refusal_words refusal.Code = codes "code" ∷ []
+refusal_words refusal.Value = codes "value" ∷ []
+refusal_words refusal.Load = codes "load" ∷ []

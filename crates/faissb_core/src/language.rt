@@ -1,0 +1,10 @@
+// The language of a script: words, commands and lines.
+mod command;
+mod grammar;
+mod line;
+mod number;
+mod words;
+
+pub use command::{Command, IndexChange, IndexQuestion};
+pub use line::{Line, read_line};
+pub use words::{cut_at, first_word};

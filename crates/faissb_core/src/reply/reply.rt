@@ -1,0 +1,30 @@
+ghost use Rattle.std.specs.Prelude.{◌≡◌, is_err};
+
+use crate::Refusal;
+use bcodes::Hits;
+
+/// What a line is answered.
+#[derive(Debug, Drop)]
+pub enum Reply {
+    /// A line without a command: no text.
+    Silent,
+    /// A command that only changes something.
+    Done,
+    /// How many codes were added, and how many there are then.
+    Added(u64, u64),
+    /// The hits, how many codes were looked at, and whether the answer is marked as exact.
+    Found(Hits, u64, bool),
+    /// The command changed nothing.
+    Refused(Refusal),
+}
+
+impl Reply {
+    ghost use Rattle.faissb_core.specs.Reply.Answer.{reply_of};
+
+    /// Whether the command was refused.
+    pub fn is_refused(&self) -> bool
+        ensures { result ≡ is_err (reply_of self.now) }
+    {
+        matches!(self, Reply::Refused(_))
+    }
+}

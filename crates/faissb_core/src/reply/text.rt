@@ -1,0 +1,162 @@
+// The text of a reply.
+ghost use Rattle.std.specs.Prelude.{◌≡◌, ◌++◌, length, string_bytes};
+ghost use Rattle.std.specs.Prelude.{Ok, Err, IfOk, IsErrOf, IsOk, OnOk};
+ghost use Rattle.std.specs.List.{flat_map};
+ghost use Rattle.std.specs.Io.KnownBytes.{Appends};
+ghost use Rattle.outside.specs.Causes.{HasCause};
+ghost use Rattle.faissb_core.specs.Reply.Answer.{Added, Found, Quiet, reply_of};
+ghost use Rattle.faissb_core.specs.Reply.Sent.{AppendsFront, SendsPieces};
+ghost use Rattle.faissb_core.specs.Reply.Text.{answer_text, count_text, found_text};
+ghost use Rattle.faissb_core.specs.Reply.Text.{hit_text, mark_word, reply_text};
+
+use super::factory_word::FactoryWord;
+use super::outgoing::send_pieces;
+use super::refusal::Refusal;
+use super::reply::Reply;
+use super::send::send_piece;
+use crate::PIECE;
+use bcodes::Hit;
+use itoa::{Buffer, Integer};
+use outside::{Sink, Trouble};
+use std::alloc::{AllocError, Global};
+
+fn refused_line(refusal: Refusal) -> &'static str
+    ensures { result.now ≡ reply_text (Err refusal) }
+{
+    match refusal {
+        Refusal::Long => "refused long\n",
+        Refusal::Line => "refused line\n",
+        Refusal::NoIndex => "refused none\n",
+        Refusal::Dim => "refused dim\n",
+        Refusal::Factory(FactoryWord::Unknown) => "refused factory unknown\n",
+        Refusal::Code => "refused code\n",
+        Refusal::Value => "refused value\n",
+        Refusal::Load => "refused load\n",
+    }
+}
+
+fn added_line(alloc: Global, added: u64, total: u64) -> Result<String, AllocError>
+    ensures { IfOk result (λ line. string_bytes line ≡ answer_text (Added added total)) }
+{
+    let line = format!(in alloc; "added {added} total {total}\n")?;
+    Ok(line)
+}
+
+fn mark(exact: bool) -> &'static str
+    ensures { result.now ≡ mark_word exact }
+{
+    if exact { "exact" } else { "partial" }
+}
+
+// The first line of a reply with hits.
+fn count_line(alloc: Global, count: usize, lent: u64, exact: bool) -> Result<String, AllocError>
+    ensures { IfOk result (λ line. string_bytes line ≡ count_text count lent exact) }
+{
+    let mark = mark(exact);
+    let line = format!(in alloc; "hits {count} looked {lent} {mark}\n")?;
+    Ok(line)
+}
+
+fn push_number<I: Integer>(held: &mut Vec<u8>, number: I) -> Result<(), AllocError>
+    ensures { OnOk result (held.new.items ≡ held.old.items ++ I.text number) }
+{
+    let mut digits = Buffer::new();
+    held.extend_from_slice(digits.format(number).as_bytes())?;
+    Ok(())
+}
+
+// A hit: its label and its distance.
+fn push_hit(held: &mut Vec<u8>, hit: Hit) -> Result<(), AllocError>
+    ensures { OnOk result (held.new.items ≡ held.old.items ++ hit_text hit) }
+{
+    push_number(held, hit.label)?;
+    held.push(b' ')?;
+    push_number(held, hit.distance)?;
+    held.push(b'\n')?;
+    Ok(())
+}
+
+// A line for each hit, behind the text that is held.
+fn send_hits<K: Sink>(held: &mut Vec<u8>, hits: &[Hit], out: &mut K) -> Result<(), Trouble>
+    ensures ok { OnOk result (SendsPieces (K.written out.old) (K.written out.new)
+        held.new.items (held.old.items ++ flat_map hit_text hits.now)) }
+    ensures front { AppendsFront (K.written out.old) (K.written out.new)
+        (held.old.items ++ flat_map hit_text hits.now) }
+    ensures cause { HasCause (K.faults out.old) (K.faults out.new)
+        (IsErrOf result Trouble.Failed) }
+    ensures faultless { OnOk result (K.faults out.new ≡ K.faults out.old) }
+    ensures memory_is_no_fault { IsErrOf result Trouble.Memory
+        → K.faults out.new ≡ K.faults out.old }
+{
+    for hit in hits {
+        push_hit(held, *hit)?;
+        send_pieces(held, out)?;
+    }
+    Ok(())
+}
+
+// One buffer takes all lines. However many hits there are, less than a piece of their text is
+// held from one hit to the next.
+fn send_found<K: Sink>(
+    alloc: Global,
+    hits: &[Hit],
+    lent: u64,
+    exact: bool,
+    out: &mut K,
+) -> Result<(), Trouble>
+    ensures ok { OnOk result (Appends (K.written out.old) (K.written out.new)
+        (found_text hits.now lent exact)) }
+    ensures front { AppendsFront (K.written out.old) (K.written out.new)
+        (found_text hits.now lent exact) }
+    ensures cause { HasCause (K.faults out.old) (K.faults out.new)
+        (IsErrOf result Trouble.Failed) }
+    ensures faultless { OnOk result (K.faults out.new ≡ K.faults out.old) }
+    ensures memory_is_no_fault { IsErrOf result Trouble.Memory
+        → K.faults out.new ≡ K.faults out.old }
+{
+    let first = count_line(alloc, hits.len(), lent, exact)?;
+    let mut held = Vec::with_capacity(alloc, 2 * PIECE)?;
+    held.extend_from_slice(first.as_bytes())?;
+    send_hits(&mut held, hits, out)?;
+    send_piece(out, &held)?;
+    Ok(())
+}
+
+/// Writes the text of a reply, each line of it with a line feed. A `Silent` reply has no text: the
+/// sink is not called, and no memory is taken.
+///
+/// The text goes out in pieces of 8,192 bytes, the last one shorter. What a write did not take is
+/// offered again.
+///
+/// # Errors
+///
+/// `Failed` if a write fails, and `Memory` if memory runs out. What was written is then a front of
+/// the text.
+pub fn write_reply<K: Sink>(alloc: Global, reply: &Reply, out: &mut K) -> Result<(), Trouble>
+    ensures ok { OnOk result (Appends (K.written out.old) (K.written out.new)
+        (reply_text (reply_of reply.now))) }
+    ensures front { AppendsFront (K.written out.old) (K.written out.new)
+        (reply_text (reply_of reply.now)) }
+
+    // Nothing is asked of the sink, or of memory, for a silent line.
+    ensures silent { reply_of reply.now ≡ Ok Quiet → IsOk result }
+    ensures untouched { reply_of reply.now ≡ Ok Quiet → out.new ≡ out.old }
+
+    ensures cause { HasCause (K.faults out.old) (K.faults out.new)
+        (IsErrOf result Trouble.Failed) }
+    ensures faultless { OnOk result (K.faults out.new ≡ K.faults out.old) }
+    ensures memory_is_no_fault { IsErrOf result Trouble.Memory
+        → K.faults out.new ≡ K.faults out.old }
+{
+    match reply {
+        Reply::Silent => {}
+        Reply::Done => send_piece(out, b"ok\n")?,
+        Reply::Added(added, total) => {
+            let line = added_line(alloc, *added, *total)?;
+            send_piece(out, line.as_bytes())?;
+        }
+        Reply::Found(hits, lent, exact) => send_found(alloc, hits.as_slice(), *lent, *exact, out)?,
+        Reply::Refused(refusal) => send_piece(out, refused_line(*refusal).as_bytes())?,
+    }
+    Ok(())
+}

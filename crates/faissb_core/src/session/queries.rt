@@ -1,0 +1,104 @@
+// Commands that ask the index for hits.
+ghost use Rattle.std.specs.Prelude.{◌≡◌, ◌≤◌, length, IfOk, IsTrue, Ok};
+ghost use Rattle.bcodes.specs.Value.{code_size, is_trained};
+ghost use Rattle.bcodes.specs.Answers.{best, within, looked};
+ghost use Rattle.bcodes.specs.Marks.{range_mark, search_mark};
+ghost use Rattle.faissb_core.specs.Machine.Queries.{range, search};
+ghost use Rattle.faissb_core.specs.Reply.Answer.{Found, reply_of};
+ghost use Rattle.faissb_core.specs.Session.Results.{Answers};
+
+use super::halt::Halt;
+use super::read_codes::read_code;
+use crate::{K_LIMIT, RADIUS_LIMIT, Refusal, Reply};
+use bcodes::{BinaryIndex, Meter, Plain, Want, range_exact, search_exact};
+use std::alloc::Global;
+
+// A search under a meter of its own, with its count and its mark.
+fn nearest<I: BinaryIndex<Led = Plain>>(
+    alloc: Global,
+    index: &I,
+    q: &[u8],
+    k: u32,
+) -> Result<Reply, Want>
+    requires code_size { length q.now ≡ code_size (I.value index.now) }
+    requires k_positive { 1 ≤ k }
+    requires is_trained { IsTrue (is_trained (I.value index.now)) }
+    ensures { let v = I.value index.now in
+        IfOk result (λ reply. reply_of reply
+        ≡ Ok (Found (best v q.now k) (looked v q.now) (search_mark v q.now k))) }
+{
+    let _dim = index.dim();
+    let mut meter = Meter::new(Plain);
+    let hits = index.search(alloc, q, k, &mut meter)?;
+    let exact = search_exact(
+        meter.lent(),
+        index.fixed(),
+        index.count(),
+        index.bound(),
+        k,
+        &hits,
+    );
+    Ok(Reply::Found(hits, meter.lent(), exact))
+}
+
+// A range search, as above.
+fn nearer<I: BinaryIndex<Led = Plain>>(
+    alloc: Global,
+    index: &I,
+    q: &[u8],
+    radius: u32,
+) -> Result<Reply, Want>
+    requires code_size { length q.now ≡ code_size (I.value index.now) }
+    requires is_trained { IsTrue (is_trained (I.value index.now)) }
+    ensures { let v = I.value index.now in
+        IfOk result (λ reply. reply_of reply
+        ≡ Ok (Found (within v q.now radius) (looked v q.now) (range_mark v q.now radius))) }
+{
+    let _dim = index.dim();
+    let mut meter = Meter::new(Plain);
+    let hits = index.range(alloc, q, radius, &mut meter)?;
+    let exact = range_exact(
+        meter.lent(),
+        index.fixed(),
+        index.count(),
+        index.bound(),
+        radius,
+    );
+    Ok(Reply::Found(hits, meter.lent(), exact))
+}
+
+/// The command `search`.
+pub fn search<I: BinaryIndex<Led = Plain>>(
+    alloc: Global,
+    index: &I,
+    k: u64,
+    word: &[u8],
+) -> Result<Reply, Halt>
+    requires is_trained { IsTrue (is_trained (I.value index.now)) }
+    ensures { Answers (search k word.now (I.value index.now)) result }
+{
+    let query = read_code(alloc, index.dim(), word)?;
+    if k < 1 || k > K_LIMIT {
+        return Err(Refusal::Value.into());
+    }
+    let reply = nearest(alloc, index, &query, k as u32)?;
+    Ok(reply)
+}
+
+/// The command `range`.
+pub fn range<I: BinaryIndex<Led = Plain>>(
+    alloc: Global,
+    index: &I,
+    radius: u64,
+    word: &[u8],
+) -> Result<Reply, Halt>
+    requires is_trained { IsTrue (is_trained (I.value index.now)) }
+    ensures { Answers (range radius word.now (I.value index.now)) result }
+{
+    let centre = read_code(alloc, index.dim(), word)?;
+    if radius > RADIUS_LIMIT {
+        return Err(Refusal::Value.into());
+    }
+    let reply = nearer(alloc, index, &centre, radius as u32)?;
+    Ok(reply)
+}
