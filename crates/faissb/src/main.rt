@@ -3,7 +3,7 @@
 //! What the program does is [`run`], whose contract says it all. No contract reaches the rest,
 //! which is this file: that `run` is handed the words of the command line, standard input and
 //! standard output, that the program ends with the status of [`exit_code`], and that wrong words
-//! are answered with the line of [`usage`] on standard error. The script `examples/statuses.sh`
+//! are answered with the line of [`usage`] on standard error. The script `examples/statuses`
 //! runs the program and checks these.
 #![tactic(auto)]
 
