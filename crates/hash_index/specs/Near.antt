@@ -1,6 +1,6 @@
 -- The lists of the buckets that a query looks into.
-use Rattle.std.specs.Prelude.{ℕ, List, [], ◌∷◌, ◌++◌, length, map, min, Bool, nat_le, if◌then◌else◌, bit_xor}
-use Rattle.std.specs.Prelude.{count_ones, Option, None, Some}
+use Rattle.std.specs.Prelude.{ℕ, List, [], ◌∷◌, ◌++◌, length, map, min, Bool, nat_le, if◌then◌else◌}
+use Rattle.std.specs.Prelude.{bit_xor, count_ones, Option, None, Some}
 use Rattle.std.specs.List.{filter}
 use Rattle.flip_walk.specs.Patterns.{flips}
 use Rattle.hash_index.specs.Table.{list_of}
@@ -29,8 +29,8 @@ lists_by_key es nflip query_key = map (λ e. e.1) (filter (λ e. is_near query_k
 -- the same lists, in the order in which they are found
 abbrev pub near_lists : List (ℕ × ℕ) → ℕ → ℕ → ℕ → List ℕ
 near_lists es b nflip query_key =
-    if nat_le (length (flips b nflip)) (length es) then flipped_lists es query_key
-    (flips b nflip) else lists_by_key es nflip query_key
+    let by_flips = flipped_lists es query_key (flips b nflip) in
+    if nat_le (length (flips b nflip)) (length es) then by_flips else lists_by_key es nflip query_key
 
 -- how many keys or buckets are looked at
 abbrev pub looks_at : List (ℕ × ℕ) → ℕ → ℕ → ℕ

@@ -1,6 +1,5 @@
 -- Rows in buckets, with their order.
-use Rattle.std.specs.Prelude.{◌≡◌, ℕ, pos, ◌+◌, ◌<◌, ◌≤◌, List, [], ◌∷◌, length, map, cond, nat_eq, Option, Some}
-use Rattle.std.specs.Prelude.{None, unwrap_or}
+use Rattle.std.specs.Prelude.{◌≡◌, ℕ, pos, ◌<◌, List, [], ◌∷◌, length, map, cond, nat_eq, Option, Some, unwrap_or}
 use Rattle.std.specs.List.{All}
 use Rattle.std.specs.Map.{lookup, keys_of}
 use Rattle.bcodes.specs.Value.{Row}
@@ -36,7 +35,7 @@ abbrev pub weave : List ℕ → (ℕ → List Row) → List Row
 weave [] lists = []
 weave (o ∷ os) lists = first_row (lists o) ∷ weave os (λ l. cond (nat_eq l o) (rows_after (lists l)) (lists l))
 
--- the rows stand on the lists of their keys, `order` has the list of each, and the keys stand in order of first
+-- the rows stand on the lists of their keys, `order` has the list of each, and the keys are in order of first
 -- appearance
 pub record IsTable (b : ℕ) (es : List (ℕ × ℕ)) (order : List ℕ) (lists : ℕ → List Row) (rows : List Row) : Type 0 where
   pub numbering : IsNumbering es

@@ -1,5 +1,5 @@
-ghost use Rattle.std.specs.Prelude.{◌≡◌, ◌+◌, ◌/◌, ◌<◌, ◌≤◌, ◌++◌, length, slice_index, IfOk, OnOk};
-ghost use Rattle.std.specs.Prelude.{OnErr};
+ghost use Rattle.std.specs.Prelude.{◌≡◌, ◌+◌, ◌/◌, ◌<◌, ◌≤◌, ◌++◌, length, slice_index};
+ghost use Rattle.std.specs.Prelude.{IfOk, OnOk, OnErr};
 ghost use Rattle.bcodes.specs.Ranges.{load_limit, raised};
 ghost use Rattle.bcodes.specs.Value.{Bare, Hash as HashForm, empty_hash, weight};
 ghost use Rattle.bcodes.specs.Answers.{best, looked, paired, within};
@@ -117,7 +117,7 @@ impl<L: Ledger> Hash<L> {
         bucket_at(&self.map, i).0
     }
 
-    /// The number of rows of bucket `i`. There is at least one.
+    /// The number of rows of bucket `i`, in order of first appearance.
     pub fn bucket_len(&self, i: usize) -> usize
         requires { i < length (hash_keys self.now) }
         ensures { result ≡ length (bucket_at self.now i) }
@@ -126,7 +126,7 @@ impl<L: Ledger> Hash<L> {
     }
 
     /// Lends rows of bucket `i` from place `from` on, without copying: at least one, which need not
-    /// be all that are left. They come in order of addition. The meter's `lent` rises by their
+    /// be all that are left. They come in order of addition, and the meter's `lent` rises by their
     /// number.
     pub fn bucket_lend(&self, i: usize, from: usize, meter: &mut Meter<L>) -> Run<'_>
         requires exists { i < length (hash_keys self.now) }

@@ -8,3 +8,6 @@ mod put;
 mod room;
 
 pub use hash::Hash;
+
+#[cfg(test)]
+mod tests;

@@ -1,5 +1,4 @@
-ghost use Rattle.std.specs.Prelude.{◌≡◌, ℕ, ◌+◌, ◌^◌, ◌<◌, ◌≤◌, length, nat_eq, slice_index_or};
-ghost use Rattle.std.specs.Prelude.{IfOk, OnOk};
+ghost use Rattle.std.specs.Prelude.{◌≡◌, ◌+◌, ◌<◌, ◌≤◌, length, nat_eq, slice_index_or, IfOk, OnOk};
 ghost use Rattle.std.specs.List.{All, IsDistinct};
 ghost use Rattle.std.specs.Map.{keys_of};
 ghost use Rattle.bcodes.specs.Ranges.{raised};
@@ -13,9 +12,14 @@ use flip_walk::{Flips, patterns};
 use indexmap::IndexMap;
 use std::alloc::Global;
 
-/// The lists of the buckets whose keys differ from `key` in at most `nflip` of `b` bits. Where
-/// there are at most as many patterns of flips as buckets, each flipped key is looked up, and else
-/// each bucket is looked at. Either look raises the meter's `asked` by 1.
+/// The lists of the buckets whose keys differ from `key` in at most `nflip` of `b` bits.
+///
+/// Where there are at most as many patterns of flips as buckets, each flipped key is looked up, and
+/// else each bucket is looked at. Either look raises the meter's `asked` by 1.
+///
+/// # Errors
+///
+/// If memory runs out. The meter's `asked` has then risen by no more than on success.
 pub fn near_buckets<L: Ledger>(
     alloc: Global,
     map: &IndexMap<u64, u32>,
@@ -56,8 +60,8 @@ fn flipped_buckets<L: Ledger>(
     requires b_least { 1 ≤ b }
     requires b_most { b ≤ 64 }
     requires flips_most { nflip ≤ b }
-    ensures near { IfOk result
-        (λ near. near.items ≡ flipped_lists map.now.entries key (flips b nflip)) }
+    ensures near { IfOk result (λ near.
+        near.items ≡ flipped_lists map.now.entries key (flips b nflip)) }
     ensures lent { meter.new.lent ≡ meter.old.lent }
     ensures asked { OnOk result (meter.new.asked
         ≡ raised meter.old.asked (length (flips b nflip))) }

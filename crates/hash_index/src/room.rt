@@ -13,8 +13,12 @@ use indexmap::IndexMap;
 use std::alloc::Global;
 
 /// Buckets for the keys of codes, and room in them for one row a code. It gives the lists of the
-/// codes. New keys go to the end of the map. Whatever it answers, no row has moved, and the map is
-/// as before once the keys behind the old ones are taken out.
+/// codes. New keys go to the end of the map.
+///
+/// # Errors
+///
+/// If memory runs out. As on success, no row has moved, and the map is as before once the keys
+/// behind the old ones are taken out.
 pub fn make_room<L: Ledger>(
     alloc: Global,
     map: &mut IndexMap<u64, u32>,
