@@ -38,7 +38,7 @@ impl Row {
     }
 }
 
-pub fn check_rows<R: Abort>(rt: &R, alloc: Global, rows: &[Row]) -> Result<(), Fail> {
+pub(crate) fn check_rows<R: Abort>(rt: &R, alloc: Global, rows: &[Row]) -> Result<(), Fail> {
     for row in rows {
         let script = row.script(alloc)?;
         let (text, status) = answer(alloc, script.as_bytes())?;
