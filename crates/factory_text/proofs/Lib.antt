@@ -1,0 +1,4 @@
+mod NumeralLemmas
+mod FrontLemmas
+mod HashLemmas
+pub mod SpecLemmas

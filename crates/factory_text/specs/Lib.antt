@@ -1,0 +1,4 @@
+pub mod Kinds
+pub mod Numerals
+pub mod Printing
+pub mod Reading
