@@ -1,0 +1,3 @@
+pub mod PackedLemmas
+mod WordLemmas
+mod NumberLemmas
