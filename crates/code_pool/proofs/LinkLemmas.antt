@@ -1000,6 +1000,42 @@ goes_on-named before jump place free lists p i at block k is here first goes =
     (block + 1) own_next (omega arith) in
     (inside.0, k.linked.one (suc i) _ block step.0 own (omega (arith, step.1)))
 
+-- a block of a list lies in the tables
+pub block_inside : (before jump place : List ℕ) (free : Chain) (lists : List Chain) (p : BlockChains)
+    (i at block : ℕ) → IsBlocks before jump place (free ∷ lists)
+    → seen before (free ∷ lists) ≡ p → i + 1 < length p.chains → at < length (chain_at p (i + 1)).blocks
+    → block ≡ get_or (chain_at p (i + 1)).blocks at 0 → block < length before
+block_inside before jump place free lists p i at block k is here low found =
+    let apart : IsApart p = subst IsApart is (seen-apart before jump place (free ∷ lists) k) in
+    let inside : get_or (chain_at p (i + 1)).blocks at 0 < p.all = apart.within (i + 1) at low in
+    omega (arith, ap (λ (q : BlockChains). q.all) is)
+
+-- the block that a block names as the one before it is the one before it
+pub step_back : (before jump place : List ℕ) (free : Chain) (lists : List Chain) (p : BlockChains)
+    (i at block prior : ℕ) → IsBlocks before jump place (free ∷ lists)
+    → seen before (free ∷ lists) ≡ p → i + 1 < length p.chains → at + 1 < length (chain_at p (i + 1)).blocks
+    → block ≡ get_or (chain_at p (i + 1)).blocks (at + 1) 0 → prior ≡ get_or before block prior
+    → prior ≡ get_or (chain_at p (i + 1)).blocks at 0
+step_back before jump place free lists p i at block prior k is here low found read =
+    let inside : block < length before = block_inside before jump place free lists p i (at + 1) block k is here low
+    found in
+    let bs = list_blocks before free lists p i is here in
+    let size : length (chain_at p (i + 1)).blocks ≡ (end_at (free ∷ lists) (suc i)).blocks = ap
+    (λ (xs : List ℕ). length xs) bs
+    ∙ length-blocks_to before (end_at (free ∷ lists) (suc i)).last (end_at (free ∷ lists) (suc i)).blocks in
+    let s = chain_stands k.owner before jump place (free ∷ lists) k.linked (suc i) at (omega arith) in
+    let t = chain_stands k.owner before jump place (free ∷ lists) k.linked (suc i) (at + 1) (omega arith) in
+    let this : get_or (blocks_to before (end_at (free ∷ lists) (suc i)).last (end_at (free ∷ lists) (suc i)).blocks)
+    (at + 1) 0 ≡ block = sym (ap (λ (xs : List ℕ). get_or xs (at + 1) 0) bs) ∙ sym found in
+    let own : k.owner block ≡ suc (suc i) = ap k.owner (sym this) ∙ t.owned in
+    let placed : get_or place block 0 ≡ at + 1 = ap (λ (x : ℕ). get_or place x 0) (sym this) ∙ t.placed in
+    let step : (k.owner (get_or before block 0) ≡ suc (suc i))
+    × (get_or place (get_or before block 0) 0 + 1 ≡ get_or place block 0) = k.linked.step (suc i) block own
+    (omega arith) in
+    get_or_read before block prior inside read 0
+    ∙ k.linked.one (suc i) _ _ step.0 s.owned (omega (arith, step.1, placed, s.placed))
+    ∙ sym (ap (λ (xs : List ℕ). get_or xs at 0) bs)
+
 -- how many blocks a list has at most
 pub list_short : (before jump place : List ℕ) (free : Chain) (lists : List Chain) (p : BlockChains) (i : ℕ)
     → IsBlocks before jump place (free ∷ lists)

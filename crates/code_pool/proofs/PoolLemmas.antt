@@ -13,10 +13,10 @@ use Rattle.std.proofs.lemmas.Bool.{cases_eq, cases_lt}
 use Rattle.bcodes.specs.Value.{Row}
 use Rattle.code_pool.specs.Lists.{PoolList, SizedRows, PoolLists, list_at, with_list, with_copy, with_row, with_spare}
 use Rattle.code_pool.specs.Lists.{without_spare, cut_to, taken, given, blocks_of, no_list, no_row, row_at, rows_in}
-use Rattle.code_pool.specs.Lists.{label_of, IsPart, IsPoolRow, IsRun}
+use Rattle.code_pool.specs.Lists.{RowWalk, label_of, IsPart, IsPoolRow, IsRun}
 use Rattle.code_pool.specs.Chains.{Held, BlockChains, IsApart, IsStretch, chain_at, count_of, empty_chain, with_chain}
 use Rattle.code_pool.specs.Chains.{with_moved, with_new, and_block, but_last, last_of, place_of}
-use Rattle.code_pool.specs.Inside.{IsPool, rows_of, list_in, pool_in}
+use Rattle.code_pool.specs.Inside.{IsPool, rows_of, list_in, pool_in, walk_in}
 use Rattle.code_pool.proofs.LinkLemmas.{map-same}
 
 pub length-rows_of : (rows : List Row) (h : Held) → length (rows_of rows h) ≡ h.len
@@ -544,6 +544,22 @@ map-part f (suc from) zero [] = refl
 map-part f (suc from) (suc n) [] = refl
 map-part f (suc from) n (x ∷ xs) = map-part f from n xs
 
+-- rows of a chain that stand side by side are a run of its rows
+pub chain_run : (r : SizedRows) (b : BlockChains) (c from start n : ℕ) (labels : List ℤ) (codes : List ℕ)
+    → IsPool r b → IsApart b → 1 ≤ n → n ≤ 65536 → from + n ≤ (chain_at b c).len
+    → IsStretch (chain_at b c).blocks from start n
+    → length labels ≡ n → length codes ≡ n * r.code_size → rows_in r.code_size labels codes ≡ take n (drop start r.rows)
+    → IsRun (rows_of r.rows (chain_at b c)) from r.code_size labels codes
+chain_run r b c from start n labels codes v apart some most within beside count bytes rows =
+    let s = stretch_rows r b c from start n v apart some within beside in
+    record {
+      some = omega arith;
+      most = omega arith;
+      within = omega (arith, length-rows_of r.rows (chain_at b c));
+      size = bytes ∙ ap (λ (k : ℕ). k * r.code_size) (sym count);
+      rows = rw count (rows ∙ s);
+    }
+
 -- rows that stand side by side are a run of their list
 pub list_run : (r : SizedRows) (b : BlockChains) (p : PoolLists) (i from start n : ℕ) (labels : List ℤ)
     (codes : List ℕ) → IsPool r b → IsApart b → pool_in r b ≡ p → i < length p.lists
@@ -554,14 +570,8 @@ list_run r b p i from start n labels codes v apart is here some most within besi
     let size : p.code_size ≡ r.code_size = ap (λ (q : PoolLists). q.code_size) (sym is) in
     let list : (list_at p i).rows ≡ rows_of r.rows (chain_at b (i + 1)) = ap (λ (l : PoolList). l.rows)
     (list_is r b p i is here) in
-    let s = stretch_rows r b (i + 1) from start n v apart some within beside in
-    rw (size, list) (record {
-      some = omega arith;
-      most = omega arith;
-      within = omega (arith, length-rows_of r.rows (chain_at b (i + 1)));
-      size = bytes ∙ ap (λ (k : ℕ). k * r.code_size) (sym count);
-      rows = rw count (rows ∙ s);
-    })
+    rw (size, list)
+    (chain_run r b (i + 1) from start n labels codes v apart some most within beside count bytes rows)
 
 -- a row of a list, among all rows
 pub list_row : (r : SizedRows) (b : BlockChains) (p : PoolLists) (i x : ℕ) → pool_in r b ≡ p → i < length p.lists
@@ -584,18 +594,14 @@ list_one r b p i at place labels codes v apart is here low found count bytes row
     let m = made_of_one r.code_size labels codes (get_or r.rows place no_row) count (bytes ∙ omega arith) (rows ∙ one) in
     rw row m
 
--- labels that stand side by side are a part of their list's
-pub list_labels : (r : SizedRows) (b : BlockChains) (p : PoolLists) (i from start n : ℕ) (labels : List ℤ)
-    → IsPool r b → IsApart b → pool_in r b ≡ p → i < length p.lists
-    → 1 ≤ n → from + n ≤ (chain_at b (i + 1)).len → IsStretch (chain_at b (i + 1)).blocks from start n
+-- labels of a chain that stand side by side are a part of its labels
+pub chain_labels : (r : SizedRows) (b : BlockChains) (c from start n : ℕ) (labels : List ℤ)
+    → IsPool r b → IsApart b → 1 ≤ n → from + n ≤ (chain_at b c).len → IsStretch (chain_at b c).blocks from start n
     → labels ≡ take n (drop start (map label_of r.rows))
-    → IsPart (map label_of (list_at p i).rows) from labels
-list_labels r b p i from start n labels v apart is here some within beside are =
-    let h = chain_at b (i + 1) in
-    let list : (list_at p i).rows ≡ rows_of r.rows (chain_at b (i + 1)) = ap (λ (l : PoolList). l.rows)
-    (list_is r b p i is here) in
-    let s = stretch_rows r b (i + 1) from start n v apart some within beside in
-    let inside = stretch_inside r b (i + 1) from start n v apart some within beside in
+    → (length labels ≡ n) × IsPart (map label_of (rows_of r.rows (chain_at b c))) from labels
+chain_labels r b c from start n labels v apart some within beside are =
+    let s = stretch_rows r b c from start n v apart some within beside in
+    let inside = stretch_inside r b c from start n v apart some within beside in
     let count : length labels ≡ n = ap (λ (ls : List ℤ). length ls) are
     ∙ omega (
       arith,
@@ -603,18 +609,41 @@ list_labels r b p i from start n labels v apart is here some within beside are =
       length-drop start (map label_of r.rows),
       length-map r.rows label_of,
     ) in
-    let all : labels ≡ take n (drop from (map label_of (rows_of r.rows (chain_at b (i + 1))))) =
+    let all : labels ≡ take n (drop from (map label_of (rows_of r.rows (chain_at b c)))) =
     are ∙ map-part label_of start n r.rows ∙ ap (map label_of) s
-    ∙ sym (map-part label_of from n (rows_of r.rows (chain_at b (i + 1)))) in
-    rw list (record {
-      some = omega arith;
-      within = omega (
-        arith,
-        length-map (rows_of r.rows (chain_at b (i + 1))) label_of,
-        length-rows_of r.rows (chain_at b (i + 1)),
-      );
-      labels = rw count all;
-    })
+    ∙ sym (map-part label_of from n (rows_of r.rows (chain_at b c))) in (
+      count,
+      record {
+        some = omega arith;
+        within = omega (
+          arith,
+          length-map (rows_of r.rows (chain_at b c)) label_of,
+          length-rows_of r.rows (chain_at b c),
+        );
+        labels = rw count all;
+      },
+    )
+
+-- labels that stand side by side are a part of their list's
+pub list_labels : (r : SizedRows) (b : BlockChains) (p : PoolLists) (i from start n : ℕ) (labels : List ℤ)
+    → IsPool r b → IsApart b → pool_in r b ≡ p → i < length p.lists
+    → 1 ≤ n → from + n ≤ (chain_at b (i + 1)).len → IsStretch (chain_at b (i + 1)).blocks from start n
+    → labels ≡ take n (drop start (map label_of r.rows))
+    → IsPart (map label_of (list_at p i).rows) from labels
+list_labels r b p i from start n labels v apart is here some within beside are =
+    let list : (list_at p i).rows ≡ rows_of r.rows (chain_at b (i + 1)) = ap (λ (l : PoolList). l.rows)
+    (list_is r b p i is here) in
+    rw list (chain_labels r b (i + 1) from start n labels v apart some within beside are).1
+
+-- a walk is within its list
+pub walk_low : (r : SizedRows) (b : BlockChains) (w : RowWalk) (list at : ℕ) → walk_in r b list at ≡ w
+    → w.at < length w.rows → at < (chain_at b (list + 1)).len
+walk_low r b w list at is low = omega (
+  arith,
+  ap (λ (v : RowWalk). v.at) is,
+  ap (λ (v : RowWalk). length v.rows) is,
+  length-rows_of r.rows (chain_at b (list + 1)),
+)
 
 -- how many blocks a list has
 pub list_blocks_of : (r : SizedRows) (b : BlockChains) (p : PoolLists) (i : ℕ) → IsPool r b → pool_in r b ≡ p

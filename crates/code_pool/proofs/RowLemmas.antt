@@ -1,10 +1,10 @@
 -- Lemmas on labels and the bytes of codes as rows.
-use Rattle.std.proofs.Common.{◌≡◌, ℕ, zero, suc, ◌+◌, ◌-◌, ◌*◌, ◌<◌, ◌≤◌, ◌^◌, ℤ, pos, FitsSigned, w64, get_or, List}
-use Rattle.std.proofs.Common.{[], ◌∷◌, ◌++◌, length, take, drop, set, map, refl, sym, ap, ◌∙◌, arith, length-drop}
+use Rattle.std.proofs.Common.{◌≡◌, ℕ, zero, suc, ◌+◌, ◌-◌, ◌*◌, ◌/◌, ◌<◌, ◌≤◌, ◌^◌, ℤ, pos, FitsSigned, w64, get_or}
+use Rattle.std.proofs.Common.{List, [], ◌∷◌, ◌++◌, length, take, drop, set, map, refl, sym, ap, ◌∙◌, arith, length-drop}
 use Rattle.std.proofs.Common.{length-take, length-append, replicate}
 use Rattle.std.proofs.lemmas.List.{length-replicate, take_at, drop_at, get_or_default, get_or-take, get_or-drop}
 use Rattle.std.proofs.lemmas.List.{take-append-le, drop-append-le, take_all, take-take, drop-take, drop-drop}
-use Rattle.std.proofs.Math.Nat.{mul-le-mul_right}
+use Rattle.std.proofs.Math.Nat.{mul-le-mul_right, mul-div-le}
 use Rattle.bcodes.specs.Value.{Row, HasBytes}
 use Rattle.code_pool.specs.Lists.{rows_in, label_of, code_in, no_row, IsPoolRow}
 
@@ -219,3 +219,23 @@ pub copied_size : (size from to rows : ℕ) (bs : List ℕ) → length bs ≡ ro
     → length (take (to * size) bs ++ (take size (drop (from * size) bs) ++ drop (to * size + size) bs)) ≡ rows * size
 copied_size size from to rows bs whole f t = written_size size to rows bs (take size (drop (from * size) bs)) whole t
     (code_at_length size from rows bs whole f)
+
+-- some neighbouring rows of others, by any number that is the code size
+pub part_inside : (from n labels bytes : ℕ) → from + n ≤ labels
+    → from * (bytes / labels) + n * (bytes / labels) ≤ bytes
+part_inside from n labels bytes within =
+    let size = bytes / labels in
+    let ends : (from + n) * (bytes / labels) ≤ labels * (bytes / labels) = mul-le-mul_right (bytes / labels) within in
+    let apart : (from + n) * (bytes / labels) ≡ from * (bytes / labels) + n * (bytes / labels) = grind arith in
+    omega (arith, mul-div-le bytes labels)
+
+pub part_rows : (size part from n : ℕ) (ls : List ℤ) (bs : List ℕ) → length bs ≡ length ls * size → part ≡ size
+    → from + n ≤ length ls
+    → (length (take (from * part + n * part - from * part) (drop (from * part) bs)) ≡ n * size)
+    × (rows_in size (take (from + n - from) (drop from ls))
+    (take (from * part + n * part - from * part) (drop (from * part) bs)) ≡ take n (drop from (rows_in size ls bs)))
+part_rows size part from n ls bs whole same within =
+    let r = run_rows size from n ls bs whole within in
+    let few : from + n - from ≡ n = omega arith in
+    let bytes : from * size + n * size - from * size ≡ n * size = omega arith in
+    rw (same, few, bytes) (r.1, r.2)

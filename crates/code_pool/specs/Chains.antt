@@ -75,6 +75,12 @@ pub record IsApart (b : BlockChains) : Type 0 where
 pub record IsTied (blocks : List ℕ) (at n : ℕ) : Type 0 where
   pub each : (k : ℕ) → k < n → slice_index blocks (at + k) ≡ slice_index blocks at + k
 
+-- numbers that are those of n blocks from a place on
+pub record IsAhead (blocks : List ℕ) (first n : ℕ) (numbers : List ℕ) : Type 0 where
+  pub fits : n ≤ 64
+  pub within : first + n ≤ length blocks
+  pub each : (k : ℕ) → k < n → slice_index numbers k ≡ slice_index blocks (first + k)
+
 -- where row k of a list stands, by the list's blocks
 abbrev pub place_of : List ℕ → ℕ → ℕ
 place_of blocks k = 4 * slice_index blocks (k / 4) + k % 4

@@ -1,10 +1,11 @@
 -- What a pool and its rows keep inside.
-use Rattle.std.specs.Prelude.{◌≡◌, ℕ, ◌-◌, ◌*◌, ◌<◌, ◌≤◌, ℤ, FitsSigned, List, length, map, drop, slice_index_or}
+use Rattle.std.specs.Prelude.{◌≡◌, ℕ, ◌+◌, ◌-◌, ◌*◌, ◌<◌, ◌≤◌, ℤ, FitsSigned, List, length, map, drop}
+use Rattle.std.specs.Prelude.{slice_index_or}
 use Rattle.std.specs.Int.{w64}
 use Rattle.std.specs.List.{All, range_with_len}
 use Rattle.bcodes.specs.Value.{Row}
-use Rattle.code_pool.specs.Lists.{SizedRows, PoolList, PoolLists, no_row}
-use Rattle.code_pool.specs.Chains.{Held, BlockChains, chain_at, place_of}
+use Rattle.code_pool.specs.Lists.{SizedRows, PoolList, PoolLists, RowWalk, no_row}
+use Rattle.code_pool.specs.Chains.{Held, BlockChains, IsAhead, chain_at, list_of, place_of}
 
 -- labels and their codes
 pub record IsRows (code_size : ℕ) (labels : List ℤ) (codes : List ℕ) : Type 0 where
@@ -36,3 +37,13 @@ pub record IsPool (r : SizedRows) (b : BlockChains) : Type 0 where
   pub most : length r.rows ≤ 17179869176
   pub lens : (c : ℕ) → (chain_at b c).len ≤ 4 * length (chain_at b c).blocks
   pub free_len : (chain_at b 0).len ≡ 0
+
+-- a walk, by all rows and the chains of blocks
+abbrev pub walk_in : SizedRows → BlockChains → ℕ → ℕ → RowWalk
+walk_in r b list at = record { code_size = r.code_size; rows = rows_of r.rows (list_of b list); at = at }
+
+-- the list is one of a pool, and what is known ahead are blocks of it
+pub record IsWalk (r : SizedRows) (b : BlockChains) (list first n : ℕ) (numbers : List ℕ) : Type 0 where
+  pub pool : IsPool r b
+  pub exists : list + 1 < length b.chains
+  pub ahead : IsAhead (list_of b list).blocks first n numbers

@@ -20,6 +20,12 @@ pub record PoolLists : Type 0 where
   pub lists : List PoolList
   pub free : ℕ
 
+-- a walk over the rows of a list: the bytes of a code, the rows, and how many of them lie behind
+pub record RowWalk : Type 0 where
+  pub code_size : ℕ
+  pub rows : List Row
+  pub at : ℕ
+
 -- a list that is just opened
 abbrev pub no_list : PoolList
 no_list = record { rows = []; spare = 0 }

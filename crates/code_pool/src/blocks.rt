@@ -1,10 +1,12 @@
 ghost use Rattle.std.specs.Prelude.{◌≡◌, ◌+◌, ◌-◌, ◌*◌, ◌/◌, ◌<◌, ◌≤◌, ◌^◌, ◌∷◌, ◌++◌, [], length};
 ghost use Rattle.std.specs.Prelude.{slice_index, IsOk, IsTrue, OnOk, OnErr, sum_by, ◌↔◌, ◌⊎◌};
 ghost use Rattle.code_pool.specs.Lists.{run_rows};
-ghost use Rattle.code_pool.specs.Chains.{GoesOn, IsApart, IsLongest, IsStretch, IsTied, chain_at};
+ghost use Rattle.code_pool.specs.Chains.{GoesOn, IsAhead, IsApart, IsLongest, IsStretch, IsTied};
+ghost use Rattle.code_pool.specs.Chains.{chain_at};
 ghost use Rattle.code_pool.specs.Chains.{count_of, empty_chain, list_of, place_of, with_len};
 ghost use Rattle.code_pool.specs.Chains.{with_moved, with_new};
 
+use crate::ahead::{AHEAD_BLOCKS, Ahead};
 use crate::beside::Beside;
 use crate::chain::Chain;
 use crate::run::RUN_ROWS;
@@ -216,11 +218,12 @@ impl Blocks {
         block as usize
     }
 
-    // The block at a place of a list, and how many of the list's blocks from it on follow one
+    // A block at a place of a list, and how many of the list's blocks from it on follow one
     // another by their numbers, if at most `most`.
-    fn side_by_side(&self, list: u32, at: usize, most: usize) -> Beside
+    fn side_by_side(&self, list: u32, at: usize, block: u32, most: usize) -> Beside
         requires exists { list + 1 < length self.now.chains }
         requires within { at < length (list_of self.now list).blocks }
+        requires here { block ≡ slice_index (list_of self.now list).blocks at }
         requires some { 1 ≤ most }
         ensures first { result.first ≡ slice_index (list_of self.now list).blocks at }
         ensures few { result.first + result.count ≤ 2 ^ 32 }
@@ -230,16 +233,18 @@ impl Blocks {
         ensures tied { IsTied (list_of self.now list).blocks at result.count }
         ensures longest { (result.count ≡ most) ⊎ ¬ (GoesOn (list_of self.now list).blocks
             (at + result.count - 1) (result.first + result.count - 1)) }
-        ensures apart { IsApart self.now }
     {
-        let first = self.find(list, at);
+        let end = most.min(self.count(list) - at);
         let mut count = 1;
-        let mut last = first as u32;
-        while count < most && self.goes_on(list, at + count - 1, last) {
+        let mut last = block;
+        while count < end && self.goes_on(list, at + count - 1, last) {
             count += 1;
             last += 1;
         }
-        Beside { first, count }
+        Beside {
+            first: block as usize,
+            count,
+        }
     }
 
     /// Where the rows of a list from `from` on stand: all up to the first that does not stand
@@ -255,7 +260,86 @@ impl Blocks {
         ensures longest { IsLongest (list_of self.now list) from result.from result.rows }
         ensures apart { IsApart self.now }
     {
-        let beside = self.side_by_side(list, from / BLOCK_ROWS, RUN_ROWS / BLOCK_ROWS + 1);
+        let block = self.find(list, from / BLOCK_ROWS) as u32;
+        self.stretch_from(list, from, block)
+    }
+
+    /// `stretch` for a walk forward, which keeps in `ahead` the blocks that were looked up last.
+    pub fn stretch_ahead(&self, list: u32, from: usize, ahead: &mut Ahead) -> Stretch
+        requires exists { list + 1 < length self.now.chains }
+        requires within { from < (list_of self.now list).len }
+        requires held { (list_of self.now list).len ≤ 4 * length (list_of self.now list).blocks }
+        requires ahead { IsAhead (list_of self.now list).blocks ahead.old.first ahead.old.count
+            ahead.old.numbers }
+        ensures some { 1 ≤ result.rows }
+        ensures most { result.rows ≤ run_rows }
+        ensures within { from + result.rows ≤ (list_of self.now list).len }
+        ensures few { from + result.rows < 2 ^ 64 }
+        ensures beside { IsStretch (list_of self.now list).blocks from result.from result.rows }
+        ensures longest { IsLongest (list_of self.now list) from result.from result.rows }
+        ensures ahead { IsAhead (list_of self.now list).blocks ahead.new.first ahead.new.count
+            ahead.new.numbers }
+        ensures apart { IsApart self.now }
+    {
+        let block = self.find_ahead(list, from / BLOCK_ROWS, ahead);
+        self.stretch_from(list, from, block)
+    }
+
+    // The block at a place of a list. Where it is not among those that were looked up last, it is
+    // looked up together with those behind it.
+    fn find_ahead(&self, list: u32, at: usize, ahead: &mut Ahead) -> u32
+        requires exists { list + 1 < length self.now.chains }
+        requires within { at < length (list_of self.now list).blocks }
+        requires ahead { IsAhead (list_of self.now list).blocks ahead.old.first ahead.old.count
+            ahead.old.numbers }
+        ensures value { result ≡ slice_index (list_of self.now list).blocks at }
+        ensures ahead { IsAhead (list_of self.now list).blocks ahead.new.first ahead.new.count
+            ahead.new.numbers }
+    {
+        if at < ahead.first || at - ahead.first >= ahead.count {
+            self.look_ahead(list, at, ahead);
+        }
+        ahead.numbers[at - ahead.first]
+    }
+
+    // Looks up the blocks of a list from a place on, as many as there is room for: the last of them
+    // by jumps, and from there each by a step back.
+    fn look_ahead(&self, list: u32, at: usize, ahead: &mut Ahead)
+        requires exists { list + 1 < length self.now.chains }
+        requires within { at < length (list_of self.now list).blocks }
+        ensures first { ahead.new.first ≡ at }
+        ensures some { 1 ≤ ahead.new.count }
+        ensures ahead { IsAhead (list_of self.now list).blocks ahead.new.first ahead.new.count
+            ahead.new.numbers }
+    {
+        let count = AHEAD_BLOCKS.min(self.count(list) - at);
+        let mut i = count - 1;
+        let mut block = self.find(list, at + i) as u32;
+        ahead.numbers[i] = block;
+        while i > 0 {
+            i -= 1;
+            block = self.tables.before[block as usize];
+            ahead.numbers[i] = block;
+        }
+        ahead.first = at;
+        ahead.count = count;
+    }
+
+    // `stretch` by the block in which row `from` stands.
+    fn stretch_from(&self, list: u32, from: usize, block: u32) -> Stretch
+        requires exists { list + 1 < length self.now.chains }
+        requires within { from < (list_of self.now list).len }
+        requires held { (list_of self.now list).len ≤ 4 * length (list_of self.now list).blocks }
+        requires here { block ≡ slice_index (list_of self.now list).blocks (from / 4) }
+        ensures some { 1 ≤ result.rows }
+        ensures most { result.rows ≤ run_rows }
+        ensures within { from + result.rows ≤ (list_of self.now list).len }
+        ensures few { from + result.rows < 2 ^ 64 }
+        ensures beside { IsStretch (list_of self.now list).blocks from result.from result.rows }
+        ensures longest { IsLongest (list_of self.now list) from result.from result.rows }
+        ensures apart { IsApart self.now }
+    {
+        let beside = self.side_by_side(list, from / BLOCK_ROWS, block, RUN_ROWS / BLOCK_ROWS + 1);
         let before = from % BLOCK_ROWS;
         let rows = beside.count * BLOCK_ROWS - before;
         Stretch {
@@ -273,6 +357,22 @@ impl Blocks {
         ensures apart { IsApart self.now }
     {
         self.find(list, at / BLOCK_ROWS) * BLOCK_ROWS + at % BLOCK_ROWS
+    }
+
+    /// `place` for a walk forward, as `stretch_ahead`.
+    pub fn place_ahead(&self, list: u32, at: usize, ahead: &mut Ahead) -> usize
+        requires exists { list + 1 < length self.now.chains }
+        requires within { at < (list_of self.now list).len }
+        requires held { (list_of self.now list).len ≤ 4 * length (list_of self.now list).blocks }
+        requires ahead { IsAhead (list_of self.now list).blocks ahead.old.first ahead.old.count
+            ahead.old.numbers }
+        ensures value { result ≡ place_of (list_of self.now list).blocks at }
+        ensures ahead { IsAhead (list_of self.now list).blocks ahead.new.first ahead.new.count
+            ahead.new.numbers }
+        ensures apart { IsApart self.now }
+    {
+        let _apart = self.len(list);
+        self.find_ahead(list, at / BLOCK_ROWS, ahead) as usize * BLOCK_ROWS + at % BLOCK_ROWS
     }
 
     /// Appends `n` new blocks to a list, in the order of their numbers. An error leaves all as it

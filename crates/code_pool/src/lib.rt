@@ -2,19 +2,23 @@
 //! a meter of the pool's ledger.
 #![tactic(auto)]
 
+mod ahead;
 mod beside;
 mod blocks;
 mod chain;
+mod keep;
 mod pool;
 mod room;
 mod rows;
 mod run;
 mod stretch;
 mod tables;
+mod walk;
 
 pub use pool::Pool;
 pub use room::Room;
 pub use run::{RUN_ROWS, Run};
+pub use walk::Walk;
 
 #[cfg(test)]
 mod tests;

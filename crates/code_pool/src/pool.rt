@@ -4,13 +4,14 @@ ghost use Rattle.std.specs.List.{All};
 ghost use Rattle.bcodes.specs.Ranges.{raised};
 ghost use Rattle.code_pool.specs.Lists.{IsPart, IsPoolRow, IsReserved, IsRun, IsTaken, blocks_of};
 ghost use Rattle.code_pool.specs.Lists.{further, label_of, list_at, no_list, row_at, with_list};
-ghost use Rattle.code_pool.specs.Lists.{with_copy, with_kept, with_row, with_spare, cut_to, given};
-ghost use Rattle.code_pool.specs.Lists.{taken};
+ghost use Rattle.code_pool.specs.Lists.{with_kept, with_row, with_spare, cut_to, given, taken};
 
 use crate::blocks::{BLOCK_ROWS, Blocks, MOST_BLOCKS};
+use crate::keep::move_kept;
 use crate::room::Room;
 use crate::rows::Rows;
 use crate::run::Run;
+use crate::walk::Walk;
 use bcodes::{Ledger, Meter, Want};
 use std::alloc::Global;
 use std::marker::{Model, PhantomData};
@@ -25,7 +26,8 @@ use std::marker::{Model, PhantomData};
 ///
 /// All rows stand in one region, in blocks of 4 rows. A block belongs to one list or is free, and a
 /// block that a list gives back serves any other. No list has a table of its own: from its last
-/// block each of its blocks is found in a number of steps logarithmic in the length of the list.
+/// block each of its blocks is found in a number of steps logarithmic in the length of the list. A
+/// `walk` over a whole list takes a number of steps linear in its length.
 ///
 /// The only way to a stored code is to borrow it by `lend` or `lend_one`, which raise the meter's
 /// `lent`. A pool holds no value of its ledger `L`, so it cannot make a meter of its own.
@@ -261,6 +263,18 @@ impl<L: Ledger> Pool<L> {
         self.rows.labels(part.from, part.rows)
     }
 
+    /// A walk over the rows of a list, from the first on.
+    pub fn walk(&self, list: u32) -> Walk<'_, L>
+        requires { list < length self.now.lists }
+        ensures { result ≡ record {
+          code_size = self.now.code_size;
+          rows = (list_at self.now list).rows;
+          at = 0;
+        } }
+    {
+        Walk::new(&self.rows, &self.blocks, list)
+    }
+
     /// Keeps the rows of a list whose flags are true, in their order, and frees the blocks that
     /// these do not need. It takes no memory.
     pub fn keep_rows(&mut self, list: u32, keep: &[bool])
@@ -272,31 +286,10 @@ impl<L: Ledger> Pool<L> {
         ensures free { self.new.free + blocks_of (list_at self.new list)
             ≡ self.old.free + blocks_of (list_at self.old list) }
     {
-        let mut kept = 0;
-        for at in 0..keep.len() {
-            if keep[at] {
-                self.copy_row(list, at, kept);
-                kept += 1;
-            }
-        }
+        let kept = move_kept(&mut self.rows, &self.blocks, list, keep);
         self.cut(list, kept);
         let needed = blocks_for(kept) as u64;
         self.give_blocks(list, self.blocks(list) - needed);
-    }
-
-    // Copies the row at one place of a list to another.
-    fn copy_row(&mut self, list: u32, from: usize, to: usize)
-        requires exists { list < length self.old.lists }
-        requires from { from < length (list_at self.old list).rows }
-        requires to { to < length (list_at self.old list).rows }
-        ensures { self.new ≡ with_list self.old list (with_copy (list_at self.old list) from to) }
-    {
-        if from == to {
-            return;
-        }
-        let source = self.blocks.place(list, from);
-        let target = self.blocks.place(list, to);
-        self.rows.copy(source, target);
     }
 
     /// Empties a list and frees its blocks. The list stays open. It takes no memory.

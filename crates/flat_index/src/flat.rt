@@ -9,7 +9,7 @@ use bcodes::{Addable, BinaryIndex, Codes, Dim, Hits, Ledger, Meter, Want};
 use code_pool::{Pool, Run};
 use hit_lists::{BestK, RangeHits};
 use kernel_table::Prepared;
-use list_scan::{offer_list, offer_list_below, room_for_run};
+use list_scan::{offer_list, offer_list_below, room_for_scan};
 use std::alloc::Global;
 use std::marker::Model;
 
@@ -132,7 +132,7 @@ impl<L: Ledger> BinaryIndex for Flat<L> {
         let count = self.pool.len(0);
         let kernel = Prepared::new(self.dim, q);
         let mut best = BestK::new(alloc, self.dim, k, count as u64)?;
-        let mut distances = room_for_run(alloc, count)?;
+        let mut distances = room_for_scan(alloc, count)?;
         offer_list(&self.pool, 0, &mut best, &kernel, &mut distances, meter);
         Ok(best.into_hits())
     }
@@ -159,7 +159,7 @@ impl<L: Ledger> BinaryIndex for Flat<L> {
         let count = self.pool.len(0);
         let kernel = Prepared::new(self.dim, q);
         let mut found = RangeHits::new(alloc);
-        let mut distances = room_for_run(alloc, count)?;
+        let mut distances = room_for_scan(alloc, count)?;
         offer_list_below(
             &self.pool,
             0,

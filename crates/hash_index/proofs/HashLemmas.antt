@@ -1,21 +1,24 @@
 -- Lemmas on a Hash before and after an add.
-use Rattle.std.proofs.Common.{◌≡◌, ℕ, zero, suc, ◌+◌, ◌-◌, ◌*◌, ◌/◌, ◌<◌, ◌≤◌, ◌^◌, Bool, true, false, cond, nat_eq}
-use Rattle.std.proofs.Common.{nat_abs, ℤ, List, [], ◌∷◌, ◌++◌, length, take, map, get_or, max, Some, refl, sym, ap}
+use Rattle.std.proofs.Common.{◌≡◌, ℕ, ◌+◌, ◌*◌, ◌/◌, ◌<◌, ◌≤◌, ◌^◌, nat_eq}
+use Rattle.std.proofs.Common.{nat_abs, ℤ, List, ◌++◌, length, take, map, refl, ap}
 use Rattle.std.proofs.Common.{◌∙◌, subst, arith, length-append}
 use Rattle.std.proofs.Math.Nat.{mul-le-mul_left}
-use Rattle.std.specs.List.{filter, All}
-use Rattle.std.proofs.lemmas.List.Elements.{All-from_get_or}
 use Rattle.std.proofs.lemmas.List.{length-map}
 use Rattle.std.proofs.lemmas.List.Sums.{length-filter, count_by-le-length}
 use Rattle.bcodes.specs.Ranges.{load_limit}
 use Rattle.bcodes.specs.Value.{Row, HashValue, Hash, Bare, weight, load_of}
 use Rattle.bcodes.specs.Answers.{paired, after_add}
-use Rattle.code_pool.specs.Lists.{PoolLists, PoolList, list_at, IsReserved}
-use Rattle.hash_index.specs.Table.{list_of, number_of, IsNumbering, IsTable, weave, put_on}
-use Rattle.hash_index.specs.Inside.{order_in, lists_in, rows_in_order, IsHash}
-use Rattle.hash_index.specs.Room.{IsRoomed, IsUndoable, lists_most}
-use Rattle.hash_index.proofs.TableLemmas.{weave_same, table_same, woven}
-use Rattle.hash_index.proofs.AddLemmas.{table_added, length-paired}
+use Rattle.code_pool.specs.Lists.{PoolLists, list_at, IsReserved}
+use Rattle.key_buckets.specs.Keys.{key_in}
+use Rattle.row_lists.specs.Put.{put_on}
+use Rattle.hash_index.specs.Table.{number_of, IsTable}
+use Rattle.row_lists.specs.Rows.{order_in, lists_in, weave}
+use Rattle.hash_index.specs.Inside.{rows_in_order, IsHash}
+use Rattle.key_buckets.specs.Room.{IsRoomed, IsUndoable}
+use Rattle.row_lists.proofs.WeaveLemmas.{weave_same}
+use Rattle.hash_index.proofs.TableLemmas.{table_same, woven}
+use Rattle.hash_index.proofs.AddLemmas.{table_added}
+use Rattle.row_lists.proofs.PutLemmas.{length-paired}
 
 least_weight : (n : ℕ) → 80 ≤ n + 16 + 64 * 1
 least_weight n = omega arith
@@ -44,11 +47,6 @@ rows_few dim b nflip n es order buckets h load l = omega (
   light dim (length (rows_in_order order buckets) + n) load,
   part_few b es (order_in order) (lists_in buckets) (rows_in_order order buckets) l h.table,
 )
-
-pub numbers_in : (b : ℕ) (es fs : List (ℕ × ℕ)) (cs : List (List ℕ)) (ns : List ℕ) (n : ℕ)
-    → IsRoomed b es fs cs (length cs) ns → length fs ≤ n → All (λ l. l < n) ns
-numbers_in b es fs cs ns n r most = All-from_get_or (λ l. l < n) ns 0
-    (λ k h. omega (arith, r.numbering.below _ (get_or ns k 0) (r.found k (omega (arith, r.count))), most))
 
 -- a pool whose list 0 got room
 pub order_kept : (p q : PoolLists) (n : ℕ) → IsReserved p q 0 n → order_in q ≡ order_in p
@@ -82,13 +80,15 @@ pub record IsAdded (order buckets room_buckets new_order new_buckets : PoolLists
   pub size : new_buckets.code_size ≡ room_buckets.code_size
 
 module _ (dim b nflip : ℕ) (es fs : List (ℕ × ℕ)) (order buckets room_buckets new_order new_buckets : PoolLists)
-    (ns : List ℕ) (ls : List ℤ) (cs : List (List ℕ))
-    (h : IsHash dim b nflip es order buckets) (same : length ls ≡ length cs) (roomed : IsRoomed b es fs cs (length cs) ns)
-    (undo : IsUndoable es fs buckets room_buckets)
+    (ks ns : List ℕ) (ls : List ℤ) (cs : List (List ℕ))
+    (h : IsHash dim b nflip es order buckets) (same : length ls ≡ length cs) (are : ks ≡ map (key_in 0 b) cs)
+    (roomed : IsRoomed 0 es fs ks (length ks) ns)
+    (undo : IsUndoable 0 es fs buckets room_buckets)
     (added : IsAdded order buckets room_buckets new_order new_buckets ns (paired ls cs)) where
   table : IsTable b fs (order_in order ++ ns) (lists_in new_buckets) (rows_in_order order buckets ++ paired ls cs)
   table = table_added b es fs (order_in order) (lists_in buckets) (lists_in new_buckets)
-      (rows_in_order order buckets) ls cs ns h.table same roomed
+      (rows_in_order order buckets) ls cs ns h.table same
+      (subst (λ (js : List ℕ). IsRoomed 0 es fs js (length js) ns) are roomed)
       (λ l. added.rows_are l ∙ ap (λ (rs : List Row). rs ++ put_on l ns (paired ls cs)) (undo.rows l))
 
   pub rows_added : rows_in_order new_order new_buckets ≡ rows_in_order order buckets ++ paired ls cs
@@ -110,7 +110,7 @@ module _ (dim b nflip : ℕ) (es fs : List (ℕ × ℕ)) (order buckets room_buc
         order_size = added.order_size;
         size = added.size ∙ undo.size ∙ h.size;
         table = rw (rows_added, added.order_is) table;
-        keys_few = omega (arith, many, roomed.most, h.keys_few);
+        keys_few = omega (arith, many, roomed.most, ap length are, length-map cs (key_in 0 b), h.keys_few);
         keys_most = omega (arith, added.lists, undo.keys_most);
         lists_few = omega (arith, added.lists, undo.lists_few, h.lists_few);
         load = rw many load;
@@ -118,7 +118,7 @@ module _ (dim b nflip : ℕ) (es fs : List (ℕ × ℕ)) (order buckets room_buc
 
 -- the pools after an add that was given up
 module _ (dim b nflip : ℕ) (es mid fs : List (ℕ × ℕ)) (order buckets new_order new_buckets : PoolLists)
-    (h : IsHash dim b nflip es order buckets) (undo : IsUndoable es mid buckets new_buckets)
+    (h : IsHash dim b nflip es order buckets) (undo : IsUndoable 0 es mid buckets new_buckets)
     (back : fs ≡ take (length es) mid)
     (same_order : order_in new_order ≡ order_in order) (one : length new_order.lists ≡ 1)
     (size : new_order.code_size ≡ 0) where

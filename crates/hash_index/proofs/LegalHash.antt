@@ -1,6 +1,6 @@
 -- A Hash is legal.
-use Rattle.std.proofs.Common.{◌≡◌, ℕ, ◌+◌, ◌/◌, ◌≤◌, ◌<◌, Bool, true, false, cond, nat_eq, List, [], ◌∷◌, length}
-use Rattle.std.proofs.Common.{subst, refl, sym, ap, ◌∙◌}
+use Rattle.std.proofs.Common.{ℕ, Bool, true, false, cond, nat_eq, List, [], ◌∷◌}
+use Rattle.std.proofs.Common.{subst, refl}
 use Rattle.std.specs.List.{All}
 use Rattle.std.proofs.lemmas.List.Elements.{All-nil, All-cons, All-head, All-tail, All-weaker}
 use Rattle.std.proofs.lemmas.Bool.{eq-eqb}
@@ -9,7 +9,8 @@ use Rattle.bcodes.specs.Value.{Row, IsRow, IsLegalHash, HasBytes}
 use Rattle.code_pool.specs.Lists.{PoolLists, IsPoolRow, list_at}
 use Rattle.flip_walk.specs.Patterns.{under}
 use Rattle.hash_index.specs.Table.{number_of}
-use Rattle.hash_index.specs.Inside.{rows_in_order, lists_in, IsHash}
+use Rattle.row_lists.specs.Rows.{lists_in}
+use Rattle.hash_index.specs.Inside.{rows_in_order, IsHash}
 
 without : (P : Row → Type 0) (row : Row) (rows : List Row) (t : Bool) → All P (cond t (row ∷ rows) rows) → All P rows
 without P row rows true h = All-tail P row rows h

@@ -1,10 +1,6 @@
-pub mod FirstsLemmas
 pub mod TableLemmas
-pub mod RoomLemmas
 pub mod AddLemmas
-pub mod PutLemmas
 pub mod HashLemmas
 pub mod LegalHash
 pub mod MarkLemmas
-pub mod XorLemmas
 pub mod NearLemmas

@@ -1,7 +1,7 @@
 -- A close row is probed.
-use Rattle.std.proofs.Common.{◌≡◌, ℕ, ◌+◌, ◌-◌, ◌*◌, ◌/◌, ◌<◌, ◌≤◌, true, nat_le, List, length, arith}
+use Rattle.std.proofs.Common.{◌≡◌, ℕ, ◌+◌, ◌-◌, ◌*◌, ◌<◌, ◌≤◌, true, List, length, arith}
 use Rattle.std.proofs.lemmas.Bool.{le-leb}
-use Rattle.bcodes.specs.Bits.{dist, dist_between, differing}
+use Rattle.bcodes.specs.Bits.{dist, dist_between}
 use Rattle.bcodes.specs.Value.{Row, HashValue, IsLegalHash, IsRow}
 use Rattle.bcodes.specs.Answers.{is_probed_hash}
 use Rattle.bcodes.proofs.BitLemmas.{differing-le_part}

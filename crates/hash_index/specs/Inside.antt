@@ -1,18 +1,11 @@
 -- How a Hash is kept.
-use Rattle.std.specs.Prelude.{◌≡◌, ℕ, ◌/◌, ◌≤◌, nat_abs, List, length, map}
+use Rattle.std.specs.Prelude.{◌≡◌, ℕ, ◌/◌, ◌≤◌, List, length}
 use Rattle.bcodes.specs.Ranges.{load_limit}
 use Rattle.bcodes.specs.Value.{Row, weight}
-use Rattle.code_pool.specs.Lists.{PoolLists, list_at}
-use Rattle.hash_index.specs.Room.{lists_most}
-use Rattle.hash_index.specs.Table.{IsTable, weave}
-
--- the list numbers of the rows, in their order
-abbrev pub order_in : PoolLists → List ℕ
-order_in order = map (λ (row : Row). nat_abs row.label) (list_at order 0).rows
-
--- the rows of each list
-abbrev pub lists_in : PoolLists → ℕ → List Row
-lists_in buckets l = (list_at buckets l).rows
+use Rattle.code_pool.specs.Lists.{PoolLists}
+use Rattle.key_buckets.specs.Room.{lists_most}
+use Rattle.row_lists.specs.Rows.{order_in, lists_in, weave}
+use Rattle.hash_index.specs.Table.{IsTable}
 
 -- the rows in their order
 abbrev pub rows_in_order : PoolLists → PoolLists → List Row

@@ -1,14 +1,10 @@
 -- The keys of rows, and the rows under a key.
-use Rattle.std.specs.Prelude.{ℕ, List, [], ◌∷◌, length, map, min, not, nat_eq, slice_index}
+use Rattle.std.specs.Prelude.{ℕ, List, length, map, min, nat_eq, slice_index}
 use Rattle.std.specs.List.{filter}
 use Rattle.bcodes.specs.Bits.{key}
 use Rattle.bcodes.specs.Value.{Row, HashValue}
 use Rattle.flip_walk.specs.Patterns.{flips}
-
--- each number once, where it comes first
-abbrev pub firsts : List ℕ → List ℕ
-firsts [] = []
-firsts (k ∷ ks) = k ∷ filter (λ j. not (nat_eq j k)) (firsts ks)
+use Rattle.key_buckets.specs.Keys.{firsts}
 
 -- the key of a row
 abbrev pub key_of : ℕ → Row → ℕ

@@ -1,5 +1,3 @@
 pub mod Keys
-pub mod Near
 pub mod Table
-pub mod Room
 pub mod Inside

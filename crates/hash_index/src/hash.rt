@@ -6,15 +6,11 @@ ghost use Rattle.bcodes.specs.Answers.{best, looked, paired, within};
 ghost use Rattle.code_pool.specs.Lists.{IsRun};
 ghost use Rattle.hash_index.specs.Keys.{bucket_at, hash_keys, looks};
 
-use crate::near::{bucket_at, longest, near_buckets};
-use crate::put::put_all;
-use crate::room::make_room;
 use bcodes::{Addable, BinaryIndex, Codes, Dim, Hits, KeySettings, Ledger, Meter, Want, chunk};
 use code_pool::{Pool, Run};
-use hit_lists::{BestK, RangeHits};
-use indexmap::IndexMap;
-use kernel_table::Prepared;
-use list_scan::{offer_lists, offer_lists_below, room_for_run};
+use key_buckets::{KeyTable, chunk_keys, make_room, near_buckets};
+use list_scan::{range_lists, search_lists};
+use row_lists::put_all;
 use std::alloc::Global;
 use std::marker::Model;
 
@@ -33,7 +29,7 @@ pub struct Hash<L: Ledger> {
     b: u32,
     nflip: u32,
     // The list of each key, in order of first appearance.
-    map: IndexMap<u64, u32>,
+    table: KeyTable,
     // The list of each row in order of addition, as labels on list 0.
     order: Pool<L>,
     buckets: Pool<L>,
@@ -52,7 +48,7 @@ impl<L: Ledger> Model for Hash<L> {
       rows = rows_in_order h.order h.buckets;
     } };
 
-    ghost invariant = { λ h. IsHash h.dim.bits h.b h.nflip h.map.entries h.order h.buckets };
+    ghost invariant = { λ h. IsHash h.dim.bits h.b h.nflip h.table h.order h.buckets };
 }
 
 impl<L: Ledger> Hash<L> {
@@ -74,7 +70,7 @@ impl<L: Ledger> Hash<L> {
             dim,
             b,
             nflip: 0,
-            map: IndexMap::new(alloc),
+            table: KeyTable::new(alloc),
             order,
             buckets: Pool::new(alloc, dim.bytes()),
         })
@@ -106,7 +102,7 @@ impl<L: Ledger> Hash<L> {
     pub fn buckets(&self) -> usize
         ensures { result ≡ length (hash_keys self.now) }
     {
-        self.map.len()
+        self.table.len()
     }
 
     /// The key of bucket `i`, in order of first appearance.
@@ -114,7 +110,7 @@ impl<L: Ledger> Hash<L> {
         requires { i < length (hash_keys self.now) }
         ensures { result ≡ slice_index (hash_keys self.now) i }
     {
-        bucket_at(&self.map, i).0
+        self.table.bucket(i).0
     }
 
     /// The number of rows of bucket `i`, in order of first appearance.
@@ -122,7 +118,7 @@ impl<L: Ledger> Hash<L> {
         requires { i < length (hash_keys self.now) }
         ensures { result ≡ length (bucket_at self.now i) }
     {
-        self.buckets.len(bucket_at(&self.map, i).1)
+        self.buckets.len(self.table.bucket(i).1)
     }
 
     /// Lends rows of bucket `i` from place `from` on, without copying: at least one, which need not
@@ -137,7 +133,7 @@ impl<L: Ledger> Hash<L> {
             ≡ record meter.old { lent = raised meter.old.lent (length result.labels.now) } }
         ensures rises { meter.old.lent ≤ meter.new.lent }
     {
-        self.buckets.lend(bucket_at(&self.map, i).1, from, meter)
+        self.buckets.lend(self.table.bucket(i).1, from, meter)
     }
 
     // Appends rows. All growths come first, so that the pushes cannot fail.
@@ -151,15 +147,16 @@ impl<L: Ledger> Hash<L> {
         }) }
         ensures err { OnErr result (self.new ≡ self.old) }
     {
-        let keys = self.map.len();
+        let held = self.table.len();
+        let keys = chunk_keys(self.alloc, codes, 0, self.b)?;
         self.order.reserve(0, codes.len())?;
-        match make_room(self.alloc, &mut self.map, &mut self.buckets, self.b, codes) {
+        match make_room(self.alloc, &mut self.table, &mut self.buckets, &keys, 0) {
             Ok(numbers) => {
                 put_all(&mut self.order, &mut self.buckets, &numbers, labels, codes);
                 Ok(())
             }
             Err(error) => {
-                self.map.truncate(keys);
+                self.table.truncate(held);
                 Err(error)
             }
         }
@@ -213,19 +210,9 @@ impl<L: Ledger> BinaryIndex for Hash<L> {
         ensures asked_most { meter.new.asked ≤ meter.old.asked + looks self.now }
     {
         let key = chunk(q, 0, self.b);
-        let near = near_buckets(alloc, &self.map, self.b, self.nflip, key, meter)?;
-        let kernel = Prepared::new(self.dim, q);
-        let mut best = BestK::new(alloc, self.dim, k, self.order.len(0) as u64)?;
-        let mut distances = room_for_run(alloc, longest(&self.buckets, &near))?;
-        offer_lists(
-            &self.buckets,
-            &near,
-            &mut best,
-            &kernel,
-            &mut distances,
-            meter,
-        );
-        Ok(best.into_hits())
+        let near = near_buckets(alloc, &self.table, self.b, self.nflip, key, meter)?;
+        let hits = search_lists(alloc, &self.buckets, &near, self.dim, q, k, meter)?;
+        Ok(hits)
     }
 
     /// The codes in probed buckets whose distance is strictly below `radius`, by distance and then
@@ -250,20 +237,9 @@ impl<L: Ledger> BinaryIndex for Hash<L> {
         ensures asked_most { meter.new.asked ≤ meter.old.asked + looks self.now }
     {
         let key = chunk(q, 0, self.b);
-        let near = near_buckets(alloc, &self.map, self.b, self.nflip, key, meter)?;
-        let kernel = Prepared::new(self.dim, q);
-        let mut found = RangeHits::new(alloc);
-        let mut distances = room_for_run(alloc, longest(&self.buckets, &near))?;
-        offer_lists_below(
-            &self.buckets,
-            &near,
-            &mut found,
-            radius,
-            &kernel,
-            &mut distances,
-            meter,
-        )?;
-        Ok(found.into_hits())
+        let near = near_buckets(alloc, &self.table, self.b, self.nflip, key, meter)?;
+        let hits = range_lists(alloc, &self.buckets, &near, self.dim, q, radius, meter)?;
+        Ok(hits)
     }
 }
 

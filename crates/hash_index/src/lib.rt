@@ -3,9 +3,6 @@
 
 mod hash;
 pub mod laws;
-mod near;
-mod put;
-mod room;
 
 pub use hash::Hash;
 

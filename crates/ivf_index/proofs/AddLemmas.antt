@@ -1,24 +1,30 @@
 -- Lemmas on an IVF before and after an add.
-use Rattle.std.proofs.Common.{◌≡◌, ℕ, zero, suc, ◌+◌, ◌-◌, ◌*◌, ◌/◌, ◌<◌, ◌≤◌, ◌^◌, Bool, true, nat_abs, ℤ, List, []}
-use Rattle.std.proofs.Common.{◌∷◌, ◌++◌, length, take, map, get_or, replicate, refl, sym, ap, ◌∙◌, subst, arith}
+use Rattle.std.proofs.Common.{◌≡◌, ℕ, zero, suc, ◌+◌, ◌*◌, ◌/◌, ◌<◌, ◌≤◌, ◌^◌, true, nat_abs, ℤ, List, []}
+use Rattle.std.proofs.Common.{◌∷◌, ◌++◌, length, map, get_or, replicate, refl, ap, ◌∙◌, subst, arith}
 use Rattle.std.proofs.Common.{length-append}
 use Rattle.std.specs.declared.option.Option.{Option}
 use Rattle.std.specs.declared.option.Option.TheVariants.{None, Some}
-use Rattle.std.specs.List.{filter, All}
+use Rattle.std.specs.List.{All}
 use Rattle.std.proofs.lemmas.List.{length-map}
 use Rattle.std.proofs.lemmas.List.Elements.{All-append}
 use Rattle.bcodes.specs.Ranges.{load_limit}
 use Rattle.bcodes.specs.Value.{Row, ListRow, CodeList, IvfValue, Ivf, Bare, weight, load_of, labels_from}
 use Rattle.bcodes.specs.Answers.{paired, onto_nearest, nearest, after_add}
-use Rattle.code_pool.specs.Lists.{PoolLists, PoolList, list_at, IsReserved}
-use Rattle.ivf_index.specs.Table.{put_on, put_row, put_rows, no_row, weave, IsTable}
-use Rattle.ivf_index.specs.Room.{SameRows, ArePlaces}
+use Rattle.code_pool.specs.Lists.{PoolLists, list_at, IsReserved}
+use Rattle.row_lists.specs.Put.{put_on}
+use Rattle.ivf_index.specs.Table.{put_row, put_rows, IsTable}
+use Rattle.code_pool.specs.Lists.{no_row}
+use Rattle.row_lists.specs.Rows.{weave}
+use Rattle.row_lists.specs.Room.{SameRows}
+use Rattle.ivf_index.specs.Entries.{ArePlaces}
 use Rattle.ivf_index.specs.Near.{nearest_by}
-use Rattle.ivf_index.specs.Direct.{IsPlaced, IsDirect, IsDirectOf, has_map, extended}
-use Rattle.ivf_index.specs.Inside.{order_in, lists_in, rows_in_order, IsIvf}
-use Rattle.ivf_index.proofs.TableLemmas.{weave_same, woven, table_same, table_added, list_few, length-put_rows}
-use Rattle.ivf_index.proofs.PairedLemmas.{length-paired}
-use Rattle.ivf_index.proofs.DirectLemmas.{IsPutOn, direct_added, has_map-extended}
+use Rattle.ivf_index.specs.Direct.{IsPlaced, IsDirectOf, has_map, extended}
+use Rattle.row_lists.specs.Rows.{order_in, lists_in}
+use Rattle.ivf_index.specs.Inside.{rows_in_order, IsIvf}
+use Rattle.row_lists.proofs.WeaveLemmas.{weave_same}
+use Rattle.ivf_index.proofs.TableLemmas.{given_back, table_same, table_added, list_few, length-put_rows}
+use Rattle.row_lists.proofs.PutLemmas.{length-paired}
+use Rattle.ivf_index.proofs.DirectLemmas.{IsPutOn, direct_added}
 use Rattle.ivf_index.proofs.VisitLemmas.{count_is}
 
 pub light : (d n c : ℕ) → weight d 0 n c ≤ load_limit → n ≤ 67108864
@@ -45,8 +51,9 @@ prepared order lists new_order new_lists n one size r s = record {
 pub rows_prepared : (order lists new_order new_lists : PoolLists) → IsPrepared order lists new_order new_lists
     → rows_in_order new_order new_lists ≡ rows_in_order order lists
 rows_prepared order lists new_order new_lists p =
-    ap (λ (os : List ℕ). weave os (lists_in new_lists)) p.order_is
-    ∙ weave_same (order_in order) (lists_in new_lists) (lists_in lists) p.same.rows
+    ap (λ (os : List ℕ). put_rows os (weave os (lists_in new_lists))) p.order_is
+    ∙ ap (put_rows (order_in order))
+    (weave_same (order_in order) (lists_in new_lists) (lists_in lists) p.same.rows)
 
 placed_same : (f g : ℕ → List Row) (nlist p e : ℕ) → ((l : ℕ) → g l ≡ f l) → IsPlaced f nlist p e → IsPlaced g nlist p e
 placed_same f g nlist p e h at = record {
@@ -116,8 +123,8 @@ module _ (dim nlist nprobe codes_most : ℕ) (entries : Option (List ℕ)) (quan
       (rows_in_order order lists) new h.table same added.rows_are
 
   pub rows_added : rows_in_order new_order new_lists ≡ rows_in_order order lists ++ put_rows ns new
-  rows_added = ap (λ (os : List ℕ). weave os (lists_in new_lists)) added.order_is
-      ∙ woven (order_in order ++ ns) (lists_in new_lists) (rows_in_order order lists ++ put_rows ns new) table
+  rows_added = ap (λ (os : List ℕ). put_rows os (weave os (lists_in new_lists))) added.order_is
+      ∙ given_back (order_in order ++ ns) (lists_in new_lists) (rows_in_order order lists ++ put_rows ns new) table
 
   pub ivf_added : (es : Option (List ℕ)) → es ≡ extended entries places → length quantizer.codes ≡ nlist
       → (has_map entries ≡ true
@@ -203,14 +210,18 @@ pub after_add_ivf : (v : IvfValue) (ls : List ℤ) (cs : List (List ℕ))
 unfolding after_add
 after_add_ivf v ls cs = refl
 
-pub load_added : (v : IvfValue) (ls : List ℤ) (cs : List (List ℕ)) → length ls ≡ length cs
-    → load_of (after_add (Bare (Ivf v)) ls cs) ≤ load_limit
-    → weight v.dim 0 (length v.rows + length cs) (length v.centroids) ≤ load_limit
-load_added v ls cs same h =
+pub load_after : (v : IvfValue) (ls : List ℤ) (cs : List (List ℕ)) → length ls ≡ length cs
+    → load_of (after_add (Bare (Ivf v)) ls cs) ≡ weight v.dim 0 (length v.rows + length cs) (length v.centroids)
+load_after v ls cs same =
     let long : length (v.rows ++ map (onto_nearest v) (paired ls cs)) ≡ length v.rows + length cs
     = length-append v.rows (map (onto_nearest v) (paired ls cs))
     ∙ ap (λ (n : ℕ). length v.rows + n) (length-map (paired ls cs) (onto_nearest v) ∙ length-paired ls cs same) in
-    subst (λ (n : ℕ). weight v.dim 0 n (length v.centroids) ≤ load_limit) long (rw (after_add_ivf v ls cs) at h)
+    ap load_of (after_add_ivf v ls cs) ∙ ap (λ (n : ℕ). weight v.dim 0 n (length v.centroids)) long
+
+pub load_added : (v : IvfValue) (ls : List ℤ) (cs : List (List ℕ)) → length ls ≡ length cs
+    → load_of (after_add (Bare (Ivf v)) ls cs) ≤ load_limit
+    → weight v.dim 0 (length v.rows + length cs) (length v.centroids) ≤ load_limit
+load_added v ls cs same h = subst (λ (n : ℕ). n ≤ load_limit) (load_after v ls cs same) h
 
 -- the rows of any list fit 31 bits
 pub lists_small : (dim nlist nprobe codes_most : ℕ) (entries : Option (List ℕ)) (quantizer : CodeList)

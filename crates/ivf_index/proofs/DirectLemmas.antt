@@ -1,20 +1,22 @@
 -- Lemmas on the direct map.
-use Rattle.std.proofs.Common.{◌≡◌, ℕ, zero, suc, ◌+◌, ◌-◌, ◌*◌, ◌^◌, ◌<◌, ◌≤◌, ◌⊎◌, inl, inr, Bool, true, false, cond}
+use Rattle.std.proofs.Common.{◌≡◌, ℕ, zero, suc, ◌+◌, ◌-◌, ◌<◌, inl, inr, Bool, true, false, cond}
 use Rattle.std.proofs.Common.{nat_eq, ℤ, pos, List, [], ◌∷◌, ◌++◌, length, take, map, get_or, refl, sym, ap, ◌∙◌}
 use Rattle.std.proofs.Common.{subst, arith, length-append}
 use Rattle.std.specs.declared.option.Option.{Option}
 use Rattle.std.specs.declared.option.Option.TheVariants.{None, Some}
-use Rattle.std.specs.List.{filter, All}
+use Rattle.std.specs.List.{All}
 use Rattle.std.proofs.lemmas.List.{get_or_append_left, get_or-append-add, map-append, length-map}
 use Rattle.std.proofs.lemmas.Bool.{eq-eqb, cases_lt}
-use Rattle.std.proofs.lemmas.Bool.Decides.{eqb_tells}
-use Rattle.bcodes.specs.Value.{Row, ListRow, IsNumbering, labels_from, row_of}
-use Rattle.bcodes.proofs.NumberedLemmas.{length-labels_from}
-use Rattle.code_pool.specs.Lists.{PoolLists, list_at}
-use Rattle.ivf_index.specs.Table.{times, put_on, put_rows, no_row}
-use Rattle.ivf_index.specs.Room.{ArePlaces}
-use Rattle.ivf_index.specs.Direct.{entry, IsPlaced, IsDirect, IsDirectOf, has_map, extended}
-use Rattle.ivf_index.specs.Inside.{lists_in}
+use Rattle.bcodes.specs.Value.{Row, ListRow, IsNumbering, labels_from}
+use Rattle.code_pool.specs.Lists.{PoolLists}
+use Rattle.flip_walk.specs.Patterns.{times}
+use Rattle.row_lists.specs.Put.{put_on}
+use Rattle.ivf_index.specs.Table.{put_rows}
+use Rattle.code_pool.specs.Lists.{no_row}
+use Rattle.ivf_index.specs.Entries.{ArePlaces}
+use Rattle.ivf_index.specs.Direct.{IsPlaced, IsDirect, IsDirectOf, has_map, extended}
+use Rattle.row_lists.specs.Rows.{lists_in}
+use Rattle.row_lists.proofs.PutLemmas.{turned}
 use Rattle.ivf_index.proofs.TableLemmas.{length-put_rows}
 use Rattle.ivf_index.proofs.NumberingLemmas.{numbering_grown}
 
@@ -33,16 +35,6 @@ put_some_step : (t : Bool) (m : ℕ) (row : Row) (rows : List Row) → m < lengt
     → cond {A = ℕ} t 1 0 + m < length (cond t (row ∷ rows) rows)
 put_some_step true m row rows h = omega arith
 put_some_step false m row rows h = omega arith
-
-pub turned : (m n : ℕ) → nat_eq m n ≡ nat_eq n m
-turned m n = elim (eqb_tells m n) [
-  | inl t ↦ t.0 ∙ sym (eq-eqb n m (sym t.1))
-  | inr t ↦ t.0
-      ∙ sym (other n m (λ e. t.1 (sym e)))
-]
-  where
-    other : (m n : ℕ) → (m ≡ n → ⊥) → nat_eq m n ≡ false
-    other m n ne = elim (eqb_tells m n) [ inl t ↦ absurd (ne t.1) | inr t ↦ t.0 ]
 
 -- row j goes behind those before it on its list
 pub put_on-at : (ns : List ℕ) (rows : List Row) (j : ℕ) → length ns ≡ length rows → j < length ns

@@ -1,15 +1,16 @@
 -- The direct map finds the code of a label.
-use Rattle.std.proofs.Common.{◌≡◌, ℕ, zero, suc, ◌+◌, ◌-◌, ◌*◌, ◌/◌, ◌%◌, ◌^◌, ◌<◌, ◌≤◌, ◌⊎◌, inl, inr, Bool, true}
+use Rattle.std.proofs.Common.{◌≡◌, ℕ, zero, suc, ◌+◌, ◌*◌, ◌/◌, ◌%◌, ◌<◌, ◌≤◌, inl, inr, Bool, true}
 use Rattle.std.proofs.Common.{false, cond, nat_eq, ℤ, pos, List, [], ◌∷◌, length, map, get_or, Option, Some, None}
-use Rattle.std.proofs.Common.{find, unwrap_or, refl, sym, ap, ◌∙◌, subst, arith, true≢false}
+use Rattle.std.proofs.Common.{unwrap_or, refl, sym, ap, ◌∙◌, subst, arith, true≢false}
 use Rattle.std.specs.Option.{option_map}
-use Rattle.std.specs.List.{filter, count_by}
 use Rattle.std.specs.Ordering.{int_eq}
 use Rattle.std.proofs.lemmas.List.{length-map}
 use Rattle.std.proofs.lemmas.Bool.Decides.{Decides-int_eq}
-use Rattle.bcodes.specs.Value.{Row, ListRow, IsNumbering, row_of}
-use Rattle.ivf_index.specs.Table.{list_of, under, on_list, no_row, IsTable}
-use Rattle.ivf_index.specs.Direct.{entry, IsPlaced, IsDirect, IsDirectOf, has_map, entries_or}
+use Rattle.bcodes.specs.Value.{Row, ListRow, row_of}
+use Rattle.ivf_index.specs.Table.{list_of, on_list, IsTable}
+use Rattle.flip_walk.specs.Patterns.{under}
+use Rattle.code_pool.specs.Lists.{no_row}
+use Rattle.ivf_index.specs.Direct.{IsDirect, IsDirectOf, has_map, entries_or}
 use Rattle.ivf_index.specs.Found.{code_labelled}
 use Rattle.ivf_index.proofs.DirectLemmas.{label_on}
 use Rattle.ivf_index.proofs.NumberingLemmas.{labelled, labelled-cons, int_eq_cases, here, not_here}

@@ -1,6 +1,6 @@
 -- An IVF is legal.
-use Rattle.std.proofs.Common.{◌≡◌, ℕ, ◌+◌, ◌/◌, ◌≤◌, ◌<◌, Bool, true, false, cond, nat_eq, List, [], ◌∷◌, length, map}
-use Rattle.std.proofs.Common.{subst, refl, sym, ap, ◌∙◌, true≢false}
+use Rattle.std.proofs.Common.{◌≡◌, ℕ, ◌<◌, Bool, true, false, cond, nat_eq, List, [], ◌∷◌, map}
+use Rattle.std.proofs.Common.{subst, refl, sym, true≢false}
 use Rattle.std.specs.declared.option.Option.{Option}
 use Rattle.std.specs.declared.option.Option.TheVariants.{None, Some}
 use Rattle.std.specs.List.{All}
@@ -10,9 +10,11 @@ use Rattle.bcodes.specs.Ranges.{IsDim}
 use Rattle.bcodes.specs.Value.{Row, ListRow, CodeList, row_of, IsRow, IsListRow, IsCode, IsLegalFlat, IsLegalIvf}
 use Rattle.bcodes.specs.Value.{HasBytes, IsNumbering}
 use Rattle.code_pool.specs.Lists.{PoolLists, IsPoolRow, list_at}
-use Rattle.ivf_index.specs.Table.{list_of, under, on_list, IsTable}
+use Rattle.ivf_index.specs.Table.{list_of, on_list}
+use Rattle.flip_walk.specs.Patterns.{under}
 use Rattle.ivf_index.specs.Direct.{has_map, IsDirectOf}
-use Rattle.ivf_index.specs.Inside.{order_in, lists_in, rows_in_order, IsIvf}
+use Rattle.row_lists.specs.Rows.{lists_in}
+use Rattle.ivf_index.specs.Inside.{rows_in_order, IsIvf}
 
 without : (P : Row → Type 0) (row : ListRow) (us : List ListRow) (t : Bool)
     → All P (map row_of (cond t (row ∷ us) us)) → All P (map row_of us)

@@ -1,9 +1,7 @@
 pub mod TableLemmas
 pub mod LegalIvf
 pub mod NewLemmas
-pub mod PairedLemmas
-pub mod RoomLemmas
-pub mod PutLemmas
+pub mod EntryLemmas
 pub mod NearLemmas
 pub mod VisitLemmas
 pub mod NumberingLemmas

@@ -1,23 +1,21 @@
 -- Lemmas on near lists.
-use Rattle.std.proofs.Common.{◌≡◌, ℕ, zero, suc, ◌+◌, ◌-◌, ◌<◌, ◌≤◌, ◌==◌, if◌then◌else◌, Bool, true, false, cond}
-use Rattle.std.proofs.Common.{nat_eq, nat_abs, ℤ, pos, inl, inr, List, [], ◌∷◌, ◌++◌, length, take, drop, map, get_or}
-use Rattle.std.proofs.Common.{refl, sym, ap, ◌∙◌, subst, arith, length-take, length-append, append_assoc, append-nil}
+use Rattle.std.proofs.Common.{◌≡◌, ℕ, zero, suc, ◌+◌, ◌-◌, ◌<◌, ◌≤◌}
+use Rattle.std.proofs.Common.{nat_abs, ℤ, pos, inl, inr, List, [], ◌∷◌, ◌++◌, length, take, drop, map, get_or}
+use Rattle.std.proofs.Common.{refl, sym, ap, ◌∙◌, subst, arith, length-take, append_assoc, append-nil}
 use Rattle.std.proofs.Common.{rules, FitsSigned, w64, to_z, of_z}
-use Rattle.std.proofs.lemmas.Int.{to_z-of_z, ints}
+use Rattle.std.proofs.lemmas.Int.{to_z-of_z}
 use Rattle.std.specs.List.{All}
-use Rattle.std.proofs.lemmas.List.{map-append, take-map, take_more, take_all, length-map, get_or-map, get_or-take}
+use Rattle.std.proofs.lemmas.List.{map-append, take-map, take_more, length-map, get_or-map, get_or-take}
 use Rattle.std.proofs.lemmas.List.Elements.{All-nil, All-cons, All-head, All-tail, All-take, All-map, All-weaker}
-use Rattle.std.proofs.lemmas.List.Elements.{All-push}
 use Rattle.std.proofs.Math.Seq.{drop-cons}
-use Rattle.std.proofs.lemmas.Bool.{ne_eqb, eq-eqb}
 use Rattle.bcodes.specs.declared.hit.Hit.{Hit}
-use Rattle.bcodes.specs.Hits.{is_above, insert_hit, in_order, no_hit}
-use Rattle.bcodes.specs.Value.{CodeList, Row, Bare, Flat, numbered}
+use Rattle.bcodes.specs.Hits.{is_above, insert_hit, in_order}
+use Rattle.bcodes.specs.Value.{CodeList, Bare, Flat, numbered}
 use Rattle.bcodes.specs.Answers.{best, hit_of, ranked_rows}
 use Rattle.bcodes.proofs.OrderLemmas.{either, length-in_order}
 use Rattle.bcodes.proofs.FormLemmas.{best_flat}
 use Rattle.bcodes.proofs.NumberedLemmas.{length-numbered}
-use Rattle.ivf_index.specs.Near.{IsNumber, lists_by, nearest_by, front_by, near_by}
+use Rattle.ivf_index.specs.Near.{IsNumber, lists_by, nearest_by, front_by}
 
 -- the number of a hit on a centroid
 abbrev pub number : Hit → ℕ

@@ -1,6 +1,6 @@
 -- Lemmas on the nearest centroid.
-use Rattle.std.proofs.Common.{◌≡◌, ℕ, zero, suc, ◌+◌, ◌-◌, ◌*◌, ◌/◌, ◌<◌, ◌≤◌, ◌⊎◌, inl, inr, min, Bool, true, false}
-use Rattle.std.proofs.Common.{nat_lt, nat_eq, nat_abs, ℤ, pos, List, [], ◌∷◌, ◌++◌, length, take, drop, map, get_or}
+use Rattle.std.proofs.Common.{◌≡◌, ℕ, zero, suc, ◌+◌, ◌-◌, ◌<◌, ◌≤◌, ◌⊎◌, inl, inr, min, true, false}
+use Rattle.std.proofs.Common.{nat_abs, ℤ, pos, List, [], ◌∷◌, length, take, drop, map, get_or}
 use Rattle.std.proofs.Common.{refl, sym, ap, ◌∙◌, subst, arith}
 use Rattle.std.specs.List.{All}
 use Rattle.std.proofs.lemmas.Bool.{lt-ltb, le-ltb, eq-eqb, ne_eqb, cases_lt}
@@ -8,14 +8,14 @@ use Rattle.std.proofs.lemmas.List.{get_or-map, get_or-take, get_or-drop, length-
 use Rattle.std.proofs.lemmas.List.Elements.{All-nil, All-cons, All-head}
 use Rattle.bcodes.specs.declared.hit.Hit.{Hit}
 use Rattle.bcodes.specs.Bits.{dist}
-use Rattle.bcodes.specs.Hits.{is_above, insert_hit, in_order, no_hit}
+use Rattle.bcodes.specs.Hits.{is_above, insert_hit, no_hit}
 use Rattle.bcodes.specs.Value.{Row, numbered}
 use Rattle.bcodes.specs.Answers.{hit_of, ranked_rows}
 use Rattle.bcodes.specs.Chunks.{chunks_of}
 use Rattle.bcodes.proofs.ChunkLemmas.{length-chunks_of}
 use Rattle.bcodes.proofs.OrderLemmas.{length-in_order}
-use Rattle.bcodes.proofs.NumberedLemmas.{length-numbered, get-numbered}
-use Rattle.code_pool.specs.Lists.{IsRun, rows_in, run_rows}
+use Rattle.bcodes.proofs.NumberedLemmas.{length-numbered}
+use Rattle.code_pool.specs.Lists.{IsRun, run_rows}
 use Rattle.hit_lists.specs.Labelled.{hits_of}
 use Rattle.list_scan.proofs.RunLemmas.{distances_of, hits_of-rows}
 use Rattle.ivf_index.specs.Near.{IsFirstLeast, nearest_by}

@@ -1,11 +1,10 @@
 -- A new IVF.
-use Rattle.std.proofs.Common.{◌≡◌, ℕ, zero, suc, ◌+◌, ◌/◌, ◌≤◌, ◌<◌, ◌++◌, List, [], ◌∷◌, length, get_or, replicate}
-use Rattle.std.proofs.Common.{refl, sym, ap, ◌∙◌, arith}
+use Rattle.std.proofs.Common.{◌≡◌, ℕ, zero, suc, ◌+◌, ◌/◌, ◌≤◌, ◌<◌, ◌++◌, [], ◌∷◌, get_or, replicate}
+use Rattle.std.proofs.Common.{refl, ap, arith}
 use Rattle.std.specs.declared.option.Option.TheVariants.{None}
-use Rattle.std.specs.List.{All}
 use Rattle.std.proofs.lemmas.List.{length-replicate, replicate-append-replicate}
 use Rattle.std.proofs.lemmas.List.Elements.{All-nil}
-use Rattle.code_pool.specs.Lists.{PoolList, PoolLists, no_list}
+use Rattle.code_pool.specs.Lists.{PoolList, no_list}
 use Rattle.ivf_index.specs.Inside.{IsIvf}
 
 -- one more list that is just opened

@@ -1,23 +1,24 @@
 -- Lemmas on places that are noted under labels.
-use Rattle.std.proofs.Common.{◌≡◌, ℕ, zero, suc, ◌+◌, ◌-◌, ◌*◌, ◌^◌, ◌<◌, ◌≤◌, ◌⊎◌, inl, inr, Bool, true, false, cond}
-use Rattle.std.proofs.Common.{nat_eq, nat_abs, ℤ, pos, List, [], ◌∷◌, ◌++◌, length, take, drop, map, get_or, set}
-use Rattle.std.proofs.Common.{replicate, refl, sym, ap, ◌∙◌, subst, arith, length-append, length-take}
+use Rattle.std.proofs.Common.{◌≡◌, ℕ, zero, suc, ◌+◌, ◌<◌, ◌≤◌, ◌⊎◌, inl, inr, Bool, true, false, cond}
+use Rattle.std.proofs.Common.{nat_eq, nat_abs, ℤ, pos, List, [], ◌∷◌, length, take, drop, map, get_or, set}
+use Rattle.std.proofs.Common.{replicate, refl, sym, ap, ◌∙◌, subst, arith}
 use Rattle.std.proofs.Common.{get_or-set_same, get_or-set_other}
-use Rattle.std.specs.List.{filter, count_by}
 use Rattle.std.proofs.lemmas.List.{take_more, take_all, get_or-take, get_or-drop, length-map}
 use Rattle.std.proofs.Math.Seq.{take-add}
 use Rattle.std.proofs.lemmas.Bool.{cases_lt, eq-eqb}
 use Rattle.std.proofs.Math.ListN.{get_or-eq_default}
 use Rattle.std.proofs.lemmas.Bool.Decides.{eqb_tells}
 use Rattle.bcodes.specs.Value.{Row, ListRow, IsNumbering, row_of}
-use Rattle.code_pool.specs.Lists.{PoolLists, PoolList, list_at, IsPart, label_of, no_list}
-use Rattle.ivf_index.specs.Table.{list_of, under, on_list, no_row, IsTable}
+use Rattle.code_pool.specs.Lists.{PoolLists, PoolList, IsPart, no_list}
+use Rattle.ivf_index.specs.Table.{list_of, on_list, IsTable}
+use Rattle.flip_walk.specs.Patterns.{under}
+use Rattle.code_pool.specs.Lists.{no_row}
 use Rattle.ivf_index.specs.Direct.{entry, IsPlaced, IsDirect}
-use Rattle.ivf_index.specs.Places.{IsAbsent, labels_on, IsRunNoted, IsListNoted, AreNoted, IsOutside, IsMissing, HasGap}
-use Rattle.ivf_index.specs.Inside.{lists_in}
+use Rattle.ivf_index.specs.Places.{IsAbsent, labels_on, IsRunNoted, IsListNoted, AreNoted, HasGap}
+use Rattle.row_lists.specs.Rows.{lists_in}
 use Rattle.ivf_index.proofs.DirectLemmas.{label_on, label-get}
 use Rattle.ivf_index.proofs.FoundLemmas.{on_least}
-use Rattle.ivf_index.proofs.NumberingLemmas.{labelled, labelled-cons, labelled-append, here, not_here, int_eq_cases}
+use Rattle.ivf_index.proofs.NumberingLemmas.{labelled, labelled-cons, labelled-append, not_here}
 use Rattle.ivf_index.proofs.NumberingLemmas.{each_once, no_others, once_least}
 
 -- ---- a run

@@ -1,8 +1,8 @@
 -- Lemmas on the settings of an IVF.
-use Rattle.std.proofs.Common.{◌≡◌, ◌+◌, ◌≤◌, ◌++◌, ℕ, ℤ, Bool, true, List, length, map, Some, refl, sym, ap, ◌∙◌}
+use Rattle.std.proofs.Common.{◌≡◌, ◌+◌, ◌≤◌, ◌++◌, ℕ, List, length, Some, refl}
 use Rattle.std.proofs.Common.{subst, length-append}
 use Rattle.bcodes.specs.Ranges.{load_limit}
-use Rattle.bcodes.specs.Value.{ListRow, IvfValue, Ivf, Bare, weight, load_of, IsNumbering}
+use Rattle.bcodes.specs.Value.{IvfValue, Ivf, Bare, weight, load_of}
 use Rattle.bcodes.specs.Answers.{after_centroids}
 
 pub some_same : (v w : IvfValue) → Some v ≡ Some w → v ≡ w

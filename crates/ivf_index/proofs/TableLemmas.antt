@@ -1,46 +1,31 @@
 -- Lemmas on rows on lists.
-use Rattle.std.proofs.Common.{◌≡◌, ℕ, zero, suc, ◌+◌, ◌-◌, ◌*◌, ◌<◌, ◌≤◌, Bool, true, false, cond, nat_eq, List, []}
-use Rattle.std.proofs.Common.{◌∷◌, ◌++◌, length, take, map, get_or, refl, sym, ap, ◌∙◌, subst, arith, length-append}
-use Rattle.std.proofs.Common.{inl, inr}
-use Rattle.std.specs.List.{filter, All, count_by}
+use Rattle.std.proofs.Common.{◌≡◌, ℕ, suc, ◌≤◌, Bool, true, false, cond, nat_eq, List, []}
+use Rattle.std.proofs.Common.{◌∷◌, ◌++◌, length, map, refl, sym, ap, ◌∙◌, arith}
+use Rattle.std.specs.List.{count_by}
 use Rattle.std.proofs.lemmas.List.{map-append, length-map}
 use Rattle.std.proofs.lemmas.List.Elements.{filter-append}
 use Rattle.std.proofs.lemmas.List.Sums.{length-filter, count_by-le-length}
-use Rattle.std.proofs.lemmas.Bool.{eq-eqb}
-use Rattle.std.proofs.lemmas.Bool.Decides.{eqb_tells}
 use Rattle.bcodes.specs.Value.{Row, ListRow, row_of}
-use Rattle.ivf_index.specs.Table.{times, list_of, under, on_list, put_row, put_rows, put_on, no_row, weave, first_row}
-use Rattle.ivf_index.specs.Table.{rows_after, IsTable}
+use Rattle.flip_walk.specs.Patterns.{under}
+use Rattle.ivf_index.specs.Table.{list_of, on_list, put_row, put_rows}
+use Rattle.row_lists.specs.Put.{put_on}
+use Rattle.row_lists.specs.Rows.{weave}
+use Rattle.row_lists.proofs.WeaveLemmas.{woven}
+use Rattle.row_lists.specs.Rows.{weave}
+use Rattle.row_lists.proofs.WeaveLemmas.{woven}
+use Rattle.ivf_index.specs.Table.{IsTable}
 
-pub weave_same : (os : List ℕ) (f g : ℕ → List Row) → ((l : ℕ) → f l ≡ g l) → weave os f ≡ weave os g
-weave_same [] f g h = refl
-weave_same (o ∷ os) f g h =
-    ap (λ (rows : List Row). put_row o (first_row rows) ∷ weave os (λ l. cond (nat_eq l o) (rows_after (f l)) (f l)))
-    (h o)
-    ∙ ap (λ (rows : List ListRow). put_row o (first_row (g o)) ∷ rows)
-    (weave_same os _ _ (λ l. ap (λ (rows : List Row). cond (nat_eq l o) (rows_after rows) rows) (h l)))
-
-weave_step : (row : ListRow) (t : Bool) (rs : List Row) (us : List ListRow) → rs ≡ map row_of (cond t (row ∷ us) us)
-    → cond t (rows_after rs) rs ≡ map row_of us
-weave_step row true rs us e = ap rows_after e
-weave_step row false rs us e = e
-
-weave_is : (rows : List ListRow) (lists : ℕ → List Row) → ((l : ℕ) → lists l ≡ on_list rows l)
-    → weave (map list_of rows) lists ≡ rows
-weave_is [] lists h = refl
-weave_is (row ∷ rows) lists h =
-    let here : lists row.list ≡ row_of row ∷ on_list rows row.list
-    = h row.list ∙ ap (λ (t : Bool). map row_of
-    (cond t (row ∷ under list_of rows row.list) (under list_of rows row.list))) (eq-eqb row.list row.list refl) in
-    ap (λ (rs : List Row). put_row row.list (first_row rs) ∷ weave (map list_of rows)
-    (λ l. cond (nat_eq l row.list) (rows_after (lists l)) (lists l))) here
-    ∙ ap (λ (rs : List ListRow). row ∷ rs)
-    (weave_is rows _ (λ l. weave_step row (nat_eq l row.list) (lists l) (under list_of rows l) (h l)))
+put_back : (rows : List ListRow) → put_rows (map list_of rows) (map row_of rows) ≡ rows
+put_back [] = refl
+put_back (row ∷ rows) = ap (λ (rs : List ListRow). row ∷ rs) (put_back rows)
 
 -- the order and the lists give the rows back
-pub woven : (order : List ℕ) (lists : ℕ → List Row) (rows : List ListRow) → IsTable order lists rows
-    → weave order lists ≡ rows
-woven order lists rows t = ap (λ (os : List ℕ). weave os lists) t.numbers ∙ weave_is rows lists t.parts
+pub given_back : (order : List ℕ) (lists : ℕ → List Row) (rows : List ListRow) → IsTable order lists rows
+    → put_rows order (weave order lists) ≡ rows
+given_back order lists rows t =
+    ap (λ (os : List ℕ). put_rows os (weave os lists)) t.numbers
+    ∙ ap (put_rows (map list_of rows)) (woven list_of row_of rows lists t.parts)
+    ∙ put_back rows
 
 -- lists that hold the same rows make the same table
 pub table_same : (order : List ℕ) (f g : ℕ → List Row) (rows : List ListRow) → ((l : ℕ) → g l ≡ f l)

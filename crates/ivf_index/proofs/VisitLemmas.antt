@@ -1,88 +1,37 @@
 -- The near lists hold the rows that are probed.
-use Rattle.std.proofs.Common.{◌≡◌, ℕ, zero, suc, ◌+◌, ◌-◌, ◌*◌, ◌/◌, ◌<◌, ◌≤◌, ◌==◌, if◌then◌else◌, ◌||◌, min, Bool}
-use Rattle.std.proofs.Common.{true, false, cond, nat_eq, nat_abs, nat_lt, ℤ, pos, inl, inr, List, [], ◌∷◌, ◌++◌}
+use Rattle.std.proofs.Common.{◌≡◌, ℕ, zero, suc, ◌+◌, ◌-◌, ◌<◌, ◌≤◌, ◌==◌, if◌then◌else◌, ◌||◌, min, Bool}
+use Rattle.std.proofs.Common.{true, false, cond, nat_eq, nat_abs, inl, inr, List, [], ◌∷◌, ◌++◌}
 use Rattle.std.proofs.Common.{length, take, map, get_or, refl, sym, ap, ◌∙◌, subst, arith}
 use Rattle.std.specs.declared.option.Option.{Option}
 use Rattle.std.specs.List.{filter, flat_map, list_any, count_by, All}
 use Rattle.std.specs.List.Sorted.{IsPermutation}
 use Rattle.std.proofs.lemmas.List.{map-append, length-map}
-use Rattle.std.proofs.lemmas.List.Sorted.{IsPermutation-refl, IsPermutation-cons, IsPermutation-trans}
-use Rattle.std.proofs.lemmas.List.Sorted.{IsPermutation-append_right, IsPermutation-middle, IsPermutation-map}
+use Rattle.std.proofs.lemmas.List.Sorted.{IsPermutation-map}
 use Rattle.std.proofs.lemmas.List.Sorted.{length_permutation}
-use Rattle.std.proofs.lemmas.List.Elements.{All-head, All-tail, filter_agree}
+use Rattle.std.proofs.lemmas.List.Elements.{filter_agree}
 use Rattle.std.proofs.lemmas.List.Sums.{length-filter}
 use Rattle.std.proofs.lemmas.Bool.{ne_eqb, eq-eqb}
 use Rattle.std.proofs.lemmas.Bool.Decides.{eqb_tells}
 use Rattle.bcodes.specs.declared.hit.Hit.{Hit}
 use Rattle.bcodes.specs.Hits.{is_above, insert_hit, in_order}
 use Rattle.bcodes.specs.Value.{CodeList, Row, ListRow, IvfValue, Ivf, Bare, row_of, numbered}
-use Rattle.bcodes.specs.Answers.{best, within, hits, looked, hit_of, order, rows_on, front_holding, near}
-use Rattle.bcodes.specs.Answers.{is_probed_ivf, probed_rows_inner, ranked_rows}
-use Rattle.bcodes.proofs.OrderLemmas.{either, in_order-permutation, filter-in_order}
+use Rattle.bcodes.specs.Answers.{looked, hit_of, rows_on, front_holding, near}
+use Rattle.bcodes.specs.Answers.{is_probed_ivf, probed_rows_inner}
+use Rattle.bcodes.proofs.OrderLemmas.{either}
 use Rattle.bcodes.proofs.LegalLemmas.{length-filter-le}
 use Rattle.code_pool.specs.Lists.{PoolLists, list_at}
 use Rattle.list_scan.specs.Visited.{rows_at}
-use Rattle.ivf_index.specs.Table.{times, list_of, under, on_list, IsTable}
+use Rattle.list_scan.proofs.VisitLemmas.{IsVisit, visit}
+use Rattle.flip_walk.specs.Patterns.{times, under}
+use Rattle.ivf_index.specs.Table.{list_of, on_list}
 use Rattle.ivf_index.specs.Near.{lists_by, count_in, front_by, near_by}
 use Rattle.ivf_index.specs.Direct.{has_map}
-use Rattle.ivf_index.specs.Inside.{order_in, lists_in, rows_in_order, IsIvf}
-use Rattle.ivf_index.proofs.TableLemmas.{length-on_list, list_few, rows_count}
+use Rattle.row_lists.specs.Rows.{order_in, lists_in}
+use Rattle.ivf_index.specs.Inside.{rows_in_order, IsIvf}
+use Rattle.ivf_index.proofs.TableLemmas.{length-on_list, rows_count}
+use Rattle.flip_walk.proofs.VisitLemmas.{visited_once}
+use Rattle.row_lists.proofs.PutLemmas.{turned}
 use Rattle.ivf_index.proofs.NearLemmas.{number}
-
--- ---- a walk over numbers meets each item once whose number it has once
-
-module _ {X : Type 0} where
-  none_step : (t : Bool) (x : ℕ) (r : X) (u : ℕ → List X) (k : ℕ) (ks : List ℕ) → cond {A = ℕ} t 1 0 + times x ks ≡ 0
-      → (times x ks ≡ 0 → flat_map (λ k. cond (nat_eq k x) (r ∷ u k) (u k)) ks ≡ flat_map u ks)
-      → cond t (r ∷ u k) (u k) ++ flat_map (λ k. cond (nat_eq k x) (r ∷ u k) (u k)) ks ≡ u k ++ flat_map u ks
-  none_step true x r u k ks h rest = absurd (omega arith)
-  none_step false x r u k ks h rest = ap (λ l. u k ++ l) (rest (omega arith))
-
-  none_added : (x : ℕ) (r : X) (u : ℕ → List X) (ks : List ℕ) → times x ks ≡ 0
-      → flat_map (λ k. cond (nat_eq k x) (r ∷ u k) (u k)) ks ≡ flat_map u ks
-  none_added x r u [] h = refl
-  none_added x r u (k ∷ ks) h = none_step (nat_eq k x) x r u k ks h (none_added x r u ks)
-
-  one_step : (t : Bool) (x : ℕ) (r : X) (u : ℕ → List X) (k : ℕ) (ks : List ℕ) → cond {A = ℕ} t 1 0 + times x ks ≡ 1
-      → (times x ks ≡ 1 → IsPermutation (flat_map (λ k. cond (nat_eq k x) (r ∷ u k) (u k)) ks) (r ∷ flat_map u ks))
-      → IsPermutation (cond t (r ∷ u k) (u k) ++ flat_map (λ k. cond (nat_eq k x) (r ∷ u k) (u k)) ks)
-      (r ∷ (u k ++ flat_map u ks))
-  one_step true x r u k ks h rest = rw (none_added x r u ks (omega arith))
-      (IsPermutation-refl (r ∷ (u k ++ flat_map u ks)))
-  one_step false x r u k ks h rest =
-      IsPermutation-trans (u k ++ flat_map (λ k. cond (nat_eq k x) (r ∷ u k) (u k)) ks) (u k ++ r ∷ flat_map u ks)
-      (r ∷ (u k ++ flat_map u ks))
-      (IsPermutation-append_right (u k) (flat_map (λ k. cond (nat_eq k x) (r ∷ u k) (u k)) ks) (r ∷ flat_map u ks)
-      (rest (omega arith)))
-      (IsPermutation-middle (u k) r (flat_map u ks))
-
-  one_added : (x : ℕ) (r : X) (u : ℕ → List X) (ks : List ℕ) → times x ks ≡ 1
-      → IsPermutation (flat_map (λ k. cond (nat_eq k x) (r ∷ u k) (u k)) ks) (r ∷ flat_map u ks)
-  one_added x r u [] h = absurd (omega arith)
-  one_added x r u (k ∷ ks) h = one_step (nat_eq k x) x r u k ks h (one_added x r u ks)
-
-  none_met : (ks : List ℕ) → flat_map {X = ℕ} {A = X} (λ k. []) ks ≡ []
-  none_met [] = refl
-  none_met (k ∷ ks) = none_met ks
-
-  visit_step : (number : X → ℕ) (is_near : X → Bool) (ks : List ℕ) (x : X) (xs : List X) (t : Bool)
-      → times (number x) ks ≡ cond t 1 0
-      → IsPermutation (flat_map (under number xs) ks) (filter is_near xs)
-      → IsPermutation (flat_map (under number (x ∷ xs)) ks) (cond t (x ∷ filter is_near xs) (filter is_near xs))
-  visit_step number is_near ks x xs true h rest =
-      IsPermutation-trans (flat_map (under number (x ∷ xs)) ks) (x ∷ flat_map (under number xs) ks)
-      (x ∷ filter is_near xs)
-      (one_added (number x) x (under number xs) ks h)
-      (IsPermutation-cons x (flat_map (under number xs) ks) (filter is_near xs) rest)
-  visit_step number is_near ks x xs false h rest = rw (none_added (number x) x (under number xs) ks h) rest
-
-  pub visited_once : (number : X → ℕ) (is_near : X → Bool) (ks : List ℕ) (xs : List X)
-      → All (λ x. times (number x) ks ≡ cond (is_near x) 1 0) xs
-      → IsPermutation (flat_map (under number xs) ks) (filter is_near xs)
-  visited_once number is_near ks [] h = rw (none_met ks) (IsPermutation-refl [])
-  visited_once number is_near ks (x ∷ xs) h =
-      visit_step number is_near ks x xs (is_near x) (All-head (λ x. times (number x) ks ≡ cond (is_near x) 1 0) x xs h)
-      (visited_once number is_near ks xs (All-tail (λ x. times (number x) ks ≡ cond (is_near x) 1 0) x xs h))
 
 -- ---- no list is near twice
 
@@ -190,18 +139,11 @@ front_is count rows (suc wanted) (n ∷ ns) h =
     ap (λ (m : ℕ). n ∷ front_by count (suc wanted - m) ns) (h n)
     ∙ ap (λ (rest : List ℕ). n ∷ rest) (front_is count rows (suc wanted - rows_on rows n) ns h)
 
-eq-sym : (m n : ℕ) → nat_eq m n ≡ nat_eq n m
-eq-sym m n = elim (eqb_tells m n) [
-  | inl t ↦ t.0 ∙ sym (eq-eqb n m (sym t.1))
-  | inr t ↦ t.0
-      ∙ sym (ne_eqb n m (λ e. t.1 (sym e)))
-]
-
 count-turned : (l : ℕ) (rows : List ListRow) → count_by (λ row. nat_eq l row.list) rows ≡ rows_on rows l
 count-turned l rows =
     sym (length-filter (λ (row : ListRow). nat_eq l row.list) rows)
     ∙ ap length (filter_agree (λ (row : ListRow). nat_eq l row.list) (λ (row : ListRow). nat_eq row.list l)
-    (λ row. eq-sym l row.list) rows)
+    (λ row. turned l row.list) rows)
     ∙ length-filter (λ (row : ListRow). nat_eq row.list l) rows
 
 -- the rows of lists, by the rows of the value
@@ -230,11 +172,6 @@ value_in dim nlist nprobe codes_most entries quantizer order_pool list_pool =
       rows = rows_in_order order_pool list_pool;
     }
 
--- the lists that a query looks into
-abbrev pub near_in : (nlist nprobe codes_most : ℕ) (quantizer : CodeList) (list_pool : PoolLists) (q : List ℕ) → List ℕ
-near_in nlist nprobe codes_most quantizer list_pool q = near_by (count_in list_pool) codes_most
-    (take (min nprobe nlist) (lists_by quantizer.codes q))
-
 module _ (dim nlist nprobe codes_most : ℕ) (entries : Option (List ℕ)) (quantizer : CodeList)
     (order_pool list_pool : PoolLists) (h : IsIvf dim nlist nprobe codes_most entries quantizer order_pool list_pool)
     (q : List ℕ) where
@@ -242,7 +179,7 @@ module _ (dim nlist nprobe codes_most : ℕ) (entries : Option (List ℕ)) (quan
   v = value_in dim nlist nprobe codes_most entries quantizer order_pool list_pool
 
   abbrev ns : List ℕ
-  ns = near_in nlist nprobe codes_most quantizer list_pool q
+  ns = near_by (count_in list_pool) codes_most (take (min nprobe nlist) (lists_by quantizer.codes q))
 
   counts : (l : ℕ) → count_in list_pool l ≡ rows_on v.rows l
   counts l = ap length (h.table.parts l) ∙ length-on_list v.rows l ∙ count-turned l v.rows
@@ -264,24 +201,7 @@ module _ (dim nlist nprobe codes_most : ℕ) (entries : Option (List ℕ)) (quan
       (IsPermutation-map row_of (flat_map (under list_of v.rows) ns) (filter (is_probed_ivf v q) v.rows)
       (visited_once list_of (is_probed_ivf v q) ns v.rows once))
 
-  pub best_is : (k : ℕ) → take k (in_order (map (hit_of q) (rows_at list_pool ns))) ≡ best (Bare (Ivf v)) q k
-  unfolding best hits
-  best_is k = ap (take k) (sym (in_order-permutation _ _ (IsPermutation-map (hit_of q) _ _ visited)))
-
-  pub within_is : (radius : ℕ)
-      → in_order (filter (λ (h : Hit). nat_lt h.distance radius) (map (hit_of q) (rows_at list_pool ns)))
-      ≡ within (Bare (Ivf v)) q radius
-  unfolding within hits
-  within_is radius =
-      sym (filter-in_order (λ (h : Hit). nat_lt h.distance radius) (map (hit_of q) (rows_at list_pool ns)))
-      ∙ ap (filter (λ (h : Hit). nat_lt h.distance radius))
-      (sym (in_order-permutation _ _ (IsPermutation-map (hit_of q) _ _ visited)))
-
-  pub looked_is : looked (Bare (Ivf v)) q ≡ length (rows_at list_pool ns) + nlist
-  unfolding looked
-  looked_is = omega (arith, length_permutation _ _ visited)
-
-  pub few_visited : length (rows_at list_pool ns) ≤ length v.rows
+  few_visited : length (rows_at list_pool ns) ≤ length v.rows
   few_visited =
       omega (
         arith,
@@ -289,6 +209,24 @@ module _ (dim nlist nprobe codes_most : ℕ) (entries : Option (List ℕ)) (quan
         length-map (filter (is_probed_ivf v q) v.rows) row_of,
         length-filter-le (is_probed_ivf v q) v.rows,
       )
+
+  -- the near lists of the value that is seen
+  pub near_seen : (seen : IvfValue) → v ≡ seen → ns ≡ near seen q
+  near_seen seen e = near_is ∙ ap (λ (w : IvfValue). near w q) e
+
+  pub visit_seen : (seen : IvfValue) → v ≡ seen → IsVisit (Bare (Ivf seen)) q (rows_at list_pool (near seen q))
+  visit_seen seen e =
+      subst (λ (w : IvfValue). IsVisit (Bare (Ivf w)) q (rows_at list_pool (near w q))) e
+      (subst (λ (ms : List ℕ). IsVisit (Bare (Ivf v)) q (rows_at list_pool ms)) near_is
+      (visit (Ivf v) q (rows_at list_pool ns) visited))
+
+  pub few_seen : (seen : IvfValue) → v ≡ seen → length (rows_at list_pool (near seen q)) ≤ length v.rows
+  few_seen seen e = subst (λ (ms : List ℕ). length (rows_at list_pool ms) ≤ length v.rows) (near_seen seen e) few_visited
+
+-- a query compares all centroids
+pub looked_least : (v : IvfValue) (q : List ℕ) → v.nlist ≤ looked (Bare (Ivf v)) q
+unfolding looked
+looked_least v q = omega arith
 
 -- ---- what a query asks
 
@@ -299,17 +237,3 @@ pub count_is : (dim nlist nprobe codes_most : ℕ) (entries : Option (List ℕ))
 count_is dim nlist nprobe codes_most entries quantizer order_pool list_pool h =
     sym (length-map (list_at order_pool 0).rows (λ (row : Row). nat_abs row.label))
     ∙ rows_count (order_in order_pool) (lists_in list_pool) (rows_in_order order_pool list_pool) h.table
-
--- room for the runs of each list, where there is room for those of as many rows as there are
-pub room_written : (dim nlist nprobe codes_most : ℕ) (entries : Option (List ℕ)) (quantizer : CodeList)
-    (order_pool list_pool : PoolLists) (room : ℕ)
-    → IsIvf dim nlist nprobe codes_most entries quantizer order_pool list_pool
-    → room ≡ min (length (list_at order_pool 0).rows) 65536 → (l : ℕ)
-    → min (length (list_at list_pool l).rows) 65536 ≤ room
-room_written dim nlist nprobe codes_most entries quantizer order_pool list_pool room h e l =
-    omega (
-      arith,
-      e,
-      count_is dim nlist nprobe codes_most entries quantizer order_pool list_pool h,
-      list_few (order_in order_pool) (lists_in list_pool) (rows_in_order order_pool list_pool) l h.table,
-    )

@@ -4,7 +4,7 @@ use Rattle.std.specs.Prelude.{slice_index, slice_index_or}
 use Rattle.std.specs.declared.option.Option.{Option}
 use Rattle.std.specs.declared.option.Option.TheVariants.{None, Some}
 use Rattle.bcodes.specs.Value.{Row, ListRow, IsNumbering}
-use Rattle.ivf_index.specs.Table.{no_row}
+use Rattle.code_pool.specs.Lists.{no_row}
 
 -- what the map says of a place on a list
 abbrev pub entry : ℕ → ℕ → ℕ

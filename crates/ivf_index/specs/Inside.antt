@@ -1,24 +1,17 @@
 -- How an IVF is kept.
-use Rattle.std.specs.Prelude.{◌≡◌, ℕ, ◌/◌, ◌^◌, ◌<◌, ◌≤◌, nat_abs, List, length, map}
+use Rattle.std.specs.Prelude.{◌≡◌, ℕ, ◌/◌, ◌^◌, ◌<◌, ◌≤◌, List, length}
 use Rattle.std.specs.declared.option.Option.{Option}
 use Rattle.std.specs.List.{All}
 use Rattle.bcodes.specs.Ranges.{load_limit}
-use Rattle.bcodes.specs.Value.{CodeList, Row, ListRow, weight}
-use Rattle.code_pool.specs.Lists.{PoolLists, list_at}
-use Rattle.ivf_index.specs.Table.{IsTable, weave}
+use Rattle.bcodes.specs.Value.{CodeList, ListRow, weight}
+use Rattle.code_pool.specs.Lists.{PoolLists}
+use Rattle.row_lists.specs.Rows.{order_in, lists_in, weave}
+use Rattle.ivf_index.specs.Table.{IsTable, put_rows}
 use Rattle.ivf_index.specs.Direct.{IsDirectOf}
-
--- the list numbers of the rows, in their order
-abbrev pub order_in : PoolLists → List ℕ
-order_in order = map (λ (row : Row). nat_abs row.label) (list_at order 0).rows
-
--- the rows of each list
-abbrev pub lists_in : PoolLists → ℕ → List Row
-lists_in lists l = (list_at lists l).rows
 
 -- the rows in their order
 abbrev pub rows_in_order : PoolLists → PoolLists → List ListRow
-rows_in_order order lists = weave (order_in order) (lists_in lists)
+rows_in_order order lists = put_rows (order_in order) (weave (order_in order) (lists_in lists))
 
 pub record IsIvf (dim lists_most probes codes_most : ℕ) (entries : Option (List ℕ)) (quantizer : CodeList)
     (order_pool list_pool : PoolLists) : Type 0 where

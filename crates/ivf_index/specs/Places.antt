@@ -3,7 +3,7 @@ use Rattle.std.specs.Prelude.{◌≡◌, ℕ, ℤ, pos, ◌+◌, ◌<◌, ◌⊎
 use Rattle.std.specs.List.{count_by}
 use Rattle.std.specs.Ordering.{int_eq}
 use Rattle.bcodes.specs.Value.{Row}
-use Rattle.ivf_index.specs.Table.{no_row}
+use Rattle.code_pool.specs.Lists.{no_row}
 use Rattle.ivf_index.specs.Direct.{IsPlaced, entry}
 
 -- no label is p

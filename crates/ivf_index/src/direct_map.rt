@@ -1,7 +1,7 @@
 ghost use Rattle.std.specs.Prelude.{◌≡◌, ℕ, ◌<◌, ◌≤◌, ◌^◌, ◌++◌, ◌+◌, [], ◌∷◌, true, length};
 ghost use Rattle.std.specs.Prelude.{replicate, slice_index, Err, IfOk, OnOk, OnErr};
 ghost use Rattle.code_pool.specs.Lists.{list_at};
-ghost use Rattle.ivf_index.specs.Inside.{lists_in};
+ghost use Rattle.row_lists.specs.Rows.{lists_in};
 ghost use Rattle.ivf_index.specs.Places.{HasGap};
 ghost use Rattle.ivf_index.specs.Direct.{HasRoomOf, IsPlaced, entries_of, entries_or, extended};
 ghost use Rattle.ivf_index.specs.Direct.{has_map};
@@ -24,19 +24,13 @@ impl Model for DirectMap {
 
     ghost Value = { PlaceList };
 
-    ghost view = { λ m. record { entries = m.entries.items; spare = vec_capacity m.entries - vec_len m.entries } };
+    ghost view = { λ m. record {
+      entries = m.entries.items;
+      spare = vec_capacity m.entries - vec_len m.entries;
+    } };
 }
 
 impl DirectMap {
-    /// A map of no labels. It takes no memory.
-    pub fn new(alloc: Global) -> DirectMap
-        ensures { result.entries ≡ [] }
-    {
-        DirectMap {
-            entries: Vec::new(alloc),
-        }
-    }
-
     /// The entry of a label.
     pub fn entry(&self, label: u64) -> u64
         requires { label < length self.now.entries }
@@ -59,10 +53,7 @@ impl DirectMap {
         ensures entries { self.new.entries ≡ self.old.entries ++ place ∷ [] }
         ensures spare { self.old.spare ≤ self.new.spare + 1 }
     {
-        match self.entries.push(place) {
-            Ok(()) => {}
-            Err(_) => unreachable!(),
-        }
+        self.entries.push_reserved(place);
     }
 }
 

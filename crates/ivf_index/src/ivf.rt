@@ -5,25 +5,24 @@ ghost use Rattle.std.specs.List.{All};
 ghost use Rattle.bcodes.specs.Ranges.{load_limit, raised};
 ghost use Rattle.bcodes.specs.Value.{empty_ivf, is_trained, labels_from, weight, IsLegalIvf};
 ghost use Rattle.bcodes.specs.Value.{IsNumbering, Ivf as IvfForm, Bare};
-ghost use Rattle.bcodes.specs.Answers.{best, looked, paired, within};
+ghost use Rattle.bcodes.specs.Answers.{best, looked, near, paired, within};
 ghost use Rattle.ivf_index.specs.Table.{on_list, put_row, put_rows};
 ghost use Rattle.ivf_index.specs.Found.{code_labelled};
 ghost use Rattle.code_pool.specs.Lists.{IsRun, no_list};
 
 use crate::CentroidError;
 use crate::direct_map::{DirectMap, entry_of, map_of, reserve_places};
+use crate::entry::place_of;
 use crate::near::near_lists;
 use crate::nearest::nearest_lists;
-use crate::room::make_room;
-use crate::table::put_all;
+use crate::put::put_all;
 use bcodes::{
     Addable, BinaryIndex, Codes, Dim, DirectError, Hits, Ledger, ListSettings, Meter, Want,
 };
 use code_pool::{Pool, Run};
 use flat_index::Flat;
-use hit_lists::{BestK, RangeHits};
-use kernel_table::Prepared;
-use list_scan::{offer_lists, offer_lists_below, room_for_run};
+use list_scan::{range_lists, search_lists};
+use row_lists::reserve_each;
 use std::alloc::Global;
 use std::marker::Model;
 
@@ -57,9 +56,18 @@ impl<L: Ledger> Model for Ivf<L> {
 
     ghost Value = { IvfValue };
 
-    ghost view = { λ i. record { dim = i.dim.bits; nlist = i.nlist; nprobe = i.nprobe; max_codes = i.max_codes; direct = has_map (entries_of i.direct); centroids = i.quantizer.codes; rows = rows_in_order i.order i.lists } };
+    ghost view = { λ i. record {
+      dim = i.dim.bits;
+      nlist = i.nlist;
+      nprobe = i.nprobe;
+      max_codes = i.max_codes;
+      direct = has_map (entries_of i.direct);
+      centroids = i.quantizer.codes;
+      rows = rows_in_order i.order i.lists;
+    } };
 
-    ghost invariant = { λ i. IsIvf i.dim.bits i.nlist i.nprobe i.max_codes (entries_of i.direct) i.quantizer i.order i.lists };
+    ghost invariant = { λ i. IsIvf i.dim.bits i.nlist i.nprobe i.max_codes (entries_of i.direct)
+        i.quantizer i.order i.lists };
 }
 
 impl<L: Ledger> Ivf<L> {
@@ -208,7 +216,7 @@ impl<L: Ledger> Ivf<L> {
         ensures err { OnErr result (self.new ≡ self.old) }
     {
         self.order.reserve(0, codes.len())?;
-        make_room(self.alloc, &mut self.lists, numbers)?;
+        reserve_each(self.alloc, &mut self.lists, numbers)?;
         reserve_places(&mut self.direct, numbers.len())?;
         put_all(
             &mut self.order,
@@ -284,9 +292,7 @@ impl<L: Ledger> Ivf<L> {
         ensures code { result.now ≡ code_labelled self.now.rows label }
         ensures lent { meter.new ≡ record meter.old { lent = raised meter.old.lent 1 } }
     {
-        let entry = entry_of(&self.direct, label);
-        let list = (entry / 4_294_967_296) as u32;
-        let offset = (entry % 4_294_967_296) as usize;
+        let (list, offset) = place_of(entry_of(&self.direct, label));
         self.lists.lend_one(list, offset, meter).codes
     }
 
@@ -326,6 +332,29 @@ impl<L: Ledger> Ivf<L> {
         ensures { result ≡ self.now.direct }
     {
         self.direct.is_some()
+    }
+    // The lists that a query reads. It compares all centroids.
+    fn probed(&self, alloc: Global, q: &[u8], meter: &mut Meter<L>) -> Result<Vec<u32>, Want>
+        requires size { length q.now ≡ self.now.dim / 8 }
+        requires is_trained { IsTrue (is_trained (Bare (IvfForm self.now))) }
+        ensures near { IfOk result (λ lists. lists.items ≡ near self.now q.now) }
+        ensures known { IfOk result (λ lists. All (λ l. l < self.now.nlist) lists.items) }
+        ensures lent { OnOk result (meter.new.lent ≡ raised meter.old.lent self.now.nlist) }
+        ensures lent_least { meter.old.lent ≤ meter.new.lent }
+        ensures lent_most { meter.new.lent ≤ meter.old.lent + self.now.nlist }
+        ensures asked { meter.new.asked ≡ meter.old.asked }
+    {
+        let probes = lesser(self.nprobe, self.nlist);
+        let near = near_lists(
+            alloc,
+            &self.quantizer,
+            &self.lists,
+            probes,
+            self.max_codes,
+            q,
+            meter,
+        )?;
+        Ok(near)
     }
 }
 
@@ -374,29 +403,9 @@ impl<L: Ledger> BinaryIndex for Ivf<L> {
             ≤ meter.old.lent + looked (Bare (IvfForm self.now)) q.now }
         ensures asked { meter.new.asked ≡ meter.old.asked }
     {
-        let probes = lesser(self.nprobe, self.nlist);
-        let near = near_lists(
-            alloc,
-            &self.quantizer,
-            &self.lists,
-            probes,
-            self.max_codes,
-            q,
-            meter,
-        )?;
-        let count = self.order.len(0);
-        let kernel = Prepared::new(self.dim, q);
-        let mut best = BestK::new(alloc, self.dim, k, count as u64)?;
-        let mut distances = room_for_run(alloc, count)?;
-        offer_lists(
-            &self.lists,
-            &near,
-            &mut best,
-            &kernel,
-            &mut distances,
-            meter,
-        );
-        Ok(best.into_hits())
+        let near = self.probed(alloc, q, meter)?;
+        let hits = search_lists(alloc, &self.lists, &near, self.dim, q, k, meter)?;
+        Ok(hits)
     }
 
     /// The rows that the query meets whose distance is strictly below `radius`, by distance and
@@ -419,30 +428,9 @@ impl<L: Ledger> BinaryIndex for Ivf<L> {
             ≤ meter.old.lent + looked (Bare (IvfForm self.now)) q.now }
         ensures asked { meter.new.asked ≡ meter.old.asked }
     {
-        let probes = lesser(self.nprobe, self.nlist);
-        let near = near_lists(
-            alloc,
-            &self.quantizer,
-            &self.lists,
-            probes,
-            self.max_codes,
-            q,
-            meter,
-        )?;
-        let count = self.order.len(0);
-        let kernel = Prepared::new(self.dim, q);
-        let mut found = RangeHits::new(alloc);
-        let mut distances = room_for_run(alloc, count)?;
-        offer_lists_below(
-            &self.lists,
-            &near,
-            &mut found,
-            radius,
-            &kernel,
-            &mut distances,
-            meter,
-        )?;
-        Ok(found.into_hits())
+        let near = self.probed(alloc, q, meter)?;
+        let hits = range_lists(alloc, &self.lists, &near, self.dim, q, radius, meter)?;
+        Ok(hits)
     }
 }
 

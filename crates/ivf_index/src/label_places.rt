@@ -1,10 +1,11 @@
 ghost use Rattle.std.specs.Prelude.{◌≡◌, ℕ, ◌+◌, ◌<◌, ◌≤◌, ◌^◌, pos, length, map, nat_abs};
 ghost use Rattle.std.specs.Prelude.{slice_index, slice_index_or, slice_set, replicate, true, false};
 ghost use Rattle.code_pool.specs.Lists.{IsPart, label_of, list_at};
-ghost use Rattle.ivf_index.specs.Inside.{lists_in};
+ghost use Rattle.row_lists.specs.Rows.{lists_in};
 ghost use Rattle.ivf_index.specs.Places.{AreNoted, HasGap, IsListNoted, IsOutside, IsRunNoted};
 ghost use Rattle.ivf_index.specs.Direct.{IsPlaced, entry};
 
+use crate::entry::entry_at;
 use bcodes::Ledger;
 use code_pool::Pool;
 
@@ -74,11 +75,7 @@ fn note_run(list: u32, from: usize, labels: &[i64], places: &mut [u64]) -> bool
         × ((m : ℕ) → m < length places.old → pos m ≡ slice_index_or labels.now i (pos 0) → ⊥) }
 {
     for i in 0..labels.len() {
-        if !note(
-            labels[i],
-            u64::from(list) * 4_294_967_296 + (from + i) as u64,
-            places,
-        ) {
+        if !note(labels[i], entry_at(list, from + i), places) {
             return false;
         }
     }

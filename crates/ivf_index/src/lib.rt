@@ -3,12 +3,12 @@
 
 mod centroid_error;
 mod direct_map;
+mod entry;
 mod ivf;
 mod label_places;
 mod near;
 mod nearest;
-mod room;
-mod table;
+mod put;
 
 pub use centroid_error::CentroidError;
 pub use ivf::Ivf;

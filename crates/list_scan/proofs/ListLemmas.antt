@@ -1,6 +1,6 @@
 -- Lemmas on a scan over the runs of lists.
-use Rattle.std.proofs.Common.{◌≡◌, ℕ, zero, suc, ◌+◌, ◌-◌, ◌<◌, ◌≤◌, min, Bool, nat_lt, ℤ, List, [], ◌∷◌, ◌++◌}
-use Rattle.std.proofs.Common.{length, get_or, take, drop, map, refl, sym, ap, ◌∙◌, arith, length-take, length-append}
+use Rattle.std.proofs.Common.{◌≡◌, ℕ, zero, suc, ◌+◌, ◌*◌, ◌<◌, ◌≤◌, Bool, nat_lt, ℤ, List, [], ◌∷◌, ◌++◌}
+use Rattle.std.proofs.Common.{length, get_or, take, drop, map, sym, ap, ◌∙◌, arith, length-take, length-append}
 use Rattle.std.proofs.Common.{append_assoc, append-nil}
 use Rattle.std.specs.List.{filter, flat_map}
 use Rattle.std.proofs.lemmas.List.{length-map, map-append, take_all, take_more}
@@ -28,6 +28,23 @@ hits_more q before rows more all hits e =
     append_assoc hits (map (hit_of q) before) (map (hit_of q) more)
     ∙ ap (λ (hs : List Hit). hits ++ hs) (sym (map-append (hit_of q) before more) ∙ ap (map (hit_of q)) e)
 
+-- a part of a run, as a run of its rows
+pub part_run : (ls ms : List ℤ) (bs cs : List ℕ) (size at n : ℕ) → length ms ≡ n → length cs ≡ n * size
+    → rows_in size ms cs ≡ take n (drop at (rows_in size ls bs)) → 1 ≤ n → n ≤ 65536 → at + n ≤ length ls
+    → IsRun (rows_in size ls bs) at size ms cs
+part_run ls ms bs cs size at n count bytes rows some most within = record {
+  some = omega arith;
+  most = omega arith;
+  within = omega (arith, length-rows_in size ls bs);
+  size = bytes ∙ ap (λ (k : ℕ). k * size) (sym count);
+  rows = rows ∙ ap (λ (k : ℕ). take k (drop at (rows_in size ls bs))) (sym count);
+}
+
+-- all rows of a run, once its parts are behind
+pub all_rows : (ls : List ℤ) (bs : List ℕ) (size at : ℕ) → length ls ≤ at
+    → take at (rows_in size ls bs) ≡ rows_in size ls bs
+all_rows ls bs size at h = take_all at (rows_in size ls bs) (omega (arith, length-rows_in size ls bs))
+
 -- the first k of the hits so far, with those of one more run
 pub best_run : (k : ℕ) (q : List ℕ) (hits kept after : List Hit) (rows : List Row) (at size : ℕ) (ls : List ℤ)
     (bs : List ℕ) → IsRun rows at size ls bs
@@ -42,6 +59,16 @@ best_run k q hits kept after rows at size ls bs run is more =
     ∙ ap (λ (hs : List Hit). take k (in_order hs))
     (hits_more q (take at rows) rows (rows_in size ls bs) (take (at + length ls) rows) hits
     (rows_more rows at size ls bs run))
+
+pub best_more : (k : ℕ) (q : List ℕ) (hits : List Hit) (rows : List Row) (at next size : ℕ) (ls : List ℤ) (bs : List ℕ)
+    → IsRun rows at size ls bs → next ≡ at + length ls
+    → take k (in_order ((hits ++ map (hit_of q) (take at rows)) ++ map (hit_of q) (rows_in size ls bs)))
+    ≡ take k (in_order (hits ++ map (hit_of q) (take next rows)))
+best_more k q hits rows at next size ls bs run is =
+    ap (λ (hs : List Hit). take k (in_order hs))
+    (hits_more q (take at rows) rows (rows_in size ls bs) (take (at + length ls) rows) hits
+    (rows_more rows at size ls bs run))
+    ∙ ap (λ (n : ℕ). take k (in_order (hits ++ map (hit_of q) (take n rows)))) (sym is)
 
 -- no more hits are kept than were offered
 pub length_more : (k : ℕ) (q : List ℕ) (kept after : List Hit) (size : ℕ) (ls : List ℤ) (bs : List ℕ)

@@ -26,3 +26,7 @@ first k hits = take k (in_order hits)
 -- the hits whose distance is strictly below a radius
 abbrev pub below : ℕ → List Hit → List Hit
 below radius hits = filter (λ h. nat_lt h.distance radius) hits
+
+-- the most rows that are scanned at a time
+abbrev pub scan_rows : ℕ
+scan_rows = 1024

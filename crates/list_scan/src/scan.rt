@@ -4,13 +4,23 @@ ghost use Rattle.std.specs.List.{All};
 ghost use Rattle.bcodes.specs.declared.hit.Hit.{Hit};
 ghost use Rattle.bcodes.specs.Ranges.{raised};
 ghost use Rattle.code_pool.specs.Lists.{rows_in, run_rows};
-ghost use Rattle.list_scan.specs.Visited.{below, first, hits_on, rows_at, rows_on};
+ghost use Rattle.list_scan.specs.Visited.{below, first, hits_on, rows_at, rows_on, scan_rows};
 
 use bcodes::{Ledger, Meter, Want};
 use code_pool::{Pool, RUN_ROWS, Run};
 use hit_lists::{BestK, RangeHits};
 use kernel_table::{Kernel, Prepared};
 use std::alloc::Global;
+
+/// The most rows that are scanned at a time. Their distances stay in the fastest cache.
+const SCAN_ROWS: usize = 1_024;
+
+/// Room for the distances that a scan of lists works on, none of more than `count` rows.
+pub fn room_for_scan(alloc: Global, count: usize) -> Result<Vec<u32>, Want>
+    ensures { IfOk result (λ room. vec_len room ≡ min count scan_rows) }
+{
+    vec![in alloc; 0; count.min(SCAN_ROWS)]
+}
 
 /// Room for the distances of any one run of a list of `count` rows.
 pub fn room_for_run(alloc: Global, count: usize) -> Result<Vec<u32>, Want>
@@ -21,8 +31,8 @@ pub fn room_for_run(alloc: Global, count: usize) -> Result<Vec<u32>, Want>
 
 /// Offers every row of a list to the `k` best, as Faiss's `InvertedListScanner::scan_codes` does.
 ///
-/// The meter's `lent` rises by the number of rows. `distances` is room to work in: it has a place
-/// for each row of a run, and what it holds afterwards means nothing. It takes no memory.
+/// The meter's `lent` rises by the number of rows. `distances` is room to work in, as
+/// `room_for_scan` gives it, and what it holds afterwards means nothing. It takes no memory.
 pub fn offer_list<L: Ledger>(
     pool: &Pool<L>,
     list: u32,
@@ -34,7 +44,7 @@ pub fn offer_list<L: Ledger>(
     requires exists { list < length pool.now.lists }
     requires size { pool.now.code_size ≡ length kernel.now }
     requires bits { best.old.bits ≡ 8 * length kernel.now }
-    requires written { min (length (rows_on pool.now list)) run_rows ≤ length distances.old }
+    requires written { min (length (rows_on pool.now list)) scan_rows ≤ length distances.old }
     requires room { length best.old.items + length (rows_on pool.now list) ≤ best.old.most }
     ensures items { (hits : List Hit) → best.old.items ≡ first best.old.k hits
         → best.new.items ≡ first best.old.k (hits ++ hits_on kernel.now (rows_on pool.now list)) }
@@ -47,10 +57,9 @@ pub fn offer_list<L: Ledger>(
     ensures rises { meter.old.lent ≤ meter.new.lent }
 {
     let count = pool.len(list);
-    let mut at = 0;
-    while at < count {
-        let run = pool.lend(list, at, meter);
-        at += run.labels.len();
+    let mut walk = pool.walk(list);
+    while walk.at() < count {
+        let run = walk.lend(meter);
         offer_run(best, kernel, run, distances);
     }
 }
@@ -68,7 +77,7 @@ pub fn offer_lists<L: Ledger>(
     requires exist { All (λ l. l < length pool.now.lists) lists.now }
     requires size { pool.now.code_size ≡ length kernel.now }
     requires bits { best.old.bits ≡ 8 * length kernel.now }
-    requires written { All (λ l. min (length (rows_on pool.now l)) run_rows
+    requires written { All (λ l. min (length (rows_on pool.now l)) scan_rows
         ≤ length distances.old) lists.now }
     requires room { length best.old.items + length (rows_at pool.now lists.now) ≤ best.old.most }
     ensures items { (hits : List Hit) → best.old.items ≡ first best.old.k hits
@@ -104,7 +113,7 @@ pub fn offer_list_below<L: Ledger>(
 ) -> Result<(), Want>
     requires exists { list < length pool.now.lists }
     requires size { pool.now.code_size ≡ length kernel.now }
-    requires written { min (length (rows_on pool.now list)) run_rows ≤ length distances.old }
+    requires written { min (length (rows_on pool.now list)) scan_rows ≤ length distances.old }
     ensures items { OnOk result (found.new.items
         ≡ found.old.items ++ below radius (hits_on kernel.now (rows_on pool.now list))) }
     ensures lent { OnOk result
@@ -114,12 +123,10 @@ pub fn offer_list_below<L: Ledger>(
     ensures asked { meter.new.asked ≡ meter.old.asked }
 {
     let count = pool.len(list);
-    let mut at = 0;
-    while at < count {
-        let run = pool.lend(list, at, meter);
-        at += run.labels.len();
-        found.reserve(run.labels.len())?;
-        offer_run_below(found, radius, kernel, run, distances);
+    let mut walk = pool.walk(list);
+    while walk.at() < count {
+        let run = walk.lend(meter);
+        offer_run_below(found, radius, kernel, run, distances)?;
     }
     Ok(())
 }
@@ -137,7 +144,7 @@ pub fn offer_lists_below<L: Ledger>(
 ) -> Result<(), Want>
     requires exist { All (λ l. l < length pool.now.lists) lists.now }
     requires size { pool.now.code_size ≡ length kernel.now }
-    requires written { All (λ l. min (length (rows_on pool.now l)) run_rows
+    requires written { All (λ l. min (length (rows_on pool.now l)) scan_rows
         ≤ length distances.old) lists.now }
     ensures items { OnOk result (found.new.items
         ≡ found.old.items ++ below radius (hits_on kernel.now (rows_at pool.now lists.now))) }
@@ -153,39 +160,87 @@ pub fn offer_lists_below<L: Ledger>(
     Ok(())
 }
 
-// Offers each row of a run, with its distance from the query.
+// Offers each row of a run, with its distance from the query, a part of the run at a time.
 fn offer_run(best: &mut BestK, kernel: &Prepared<'_>, run: Run<'_>, distances: &mut [u32])
     requires bits { best.old.bits ≡ 8 * length kernel.now }
     requires whole { length run.codes.now ≡ length run.labels.now * length kernel.now }
-    requires written { length run.labels.now ≤ length distances.old }
-    requires room { (length best.old.items + length run.labels.now ≤ best.old.most)
-        ⊎ (length best.old.items ≡ best.old.k) }
-    ensures items { best.new.items ≡ first best.old.k (best.old.items ++ hits_on kernel.now
+    requires written { min (length run.labels.now) scan_rows ≤ length distances.old }
+    requires room { length best.old.items + length run.labels.now ≤ best.old.most }
+    ensures items { (hits : List Hit) → best.old.items ≡ first best.old.k hits
+        → best.new.items ≡ first best.old.k (hits ++ hits_on kernel.now
         (rows_in (length kernel.now) run.entry.labels.now run.entry.codes.now)) }
+    ensures grown { length best.new.items ≤ length best.old.items + length run.entry.labels.now }
     ensures k { best.new.k ≡ best.old.k }
     ensures most { best.new.most ≡ best.old.most }
     ensures bits { best.new.bits ≡ best.old.bits }
 {
-    let part = &mut distances[..run.labels.len()];
-    kernel.scan(run.codes, part);
-    best.offer_all(run.labels, part);
+    let count = run.labels.len();
+    let mut at = 0;
+    while at < count {
+        let part = run.part(at, SCAN_ROWS.min(count - at));
+        at += part.labels.len();
+        offer_part(best, kernel, part, distances);
+    }
 }
 
-// Adds the rows of a run whose distance from the query is strictly below the radius.
+// Adds the rows of a run whose distance from the query is strictly below the radius, a part of the
+// run at a time.
 fn offer_run_below(
     found: &mut RangeHits,
     radius: u32,
     kernel: &Prepared<'_>,
     run: Run<'_>,
     distances: &mut [u32],
-)
+) -> Result<(), Want>
     requires whole { length run.codes.now ≡ length run.labels.now * length kernel.now }
-    requires written { length run.labels.now ≤ length distances.old }
-    requires room { length run.labels.now ≤ found.old.spare }
-    ensures { found.new.items ≡ found.old.items ++ below radius (hits_on kernel.now
-        (rows_in (length kernel.now) run.entry.labels.now run.entry.codes.now)) }
+    requires written { min (length run.labels.now) scan_rows ≤ length distances.old }
+    ensures { OnOk result (found.new.items ≡ found.old.items ++ below radius (hits_on kernel.now
+        (rows_in (length kernel.now) run.entry.labels.now run.entry.codes.now))) }
 {
-    let part = &mut distances[..run.labels.len()];
-    kernel.scan(run.codes, part);
-    found.offer_below(radius, run.labels, part);
+    let count = run.labels.len();
+    let mut at = 0;
+    while at < count {
+        let part = run.part(at, SCAN_ROWS.min(count - at));
+        at += part.labels.len();
+        found.reserve(part.labels.len())?;
+        offer_part_below(found, radius, kernel, part, distances);
+    }
+    Ok(())
+}
+
+// Offers each row of a part of a run, with its distance from the query.
+fn offer_part(best: &mut BestK, kernel: &Prepared<'_>, part: Run<'_>, distances: &mut [u32])
+    requires bits { best.old.bits ≡ 8 * length kernel.now }
+    requires whole { length part.codes.now ≡ length part.labels.now * length kernel.now }
+    requires written { length part.labels.now ≤ length distances.old }
+    requires room { (length best.old.items + length part.labels.now ≤ best.old.most)
+        ⊎ (length best.old.items ≡ best.old.k) }
+    ensures items { best.new.items ≡ first best.old.k (best.old.items ++ hits_on kernel.now
+        (rows_in (length kernel.now) part.entry.labels.now part.entry.codes.now)) }
+    ensures k { best.new.k ≡ best.old.k }
+    ensures most { best.new.most ≡ best.old.most }
+    ensures bits { best.new.bits ≡ best.old.bits }
+{
+    let distances = &mut distances[..part.labels.len()];
+    kernel.scan(part.codes, distances);
+    best.offer_all(part.labels, distances);
+}
+
+// Adds the rows of a part of a run whose distance from the query is strictly below the radius.
+fn offer_part_below(
+    found: &mut RangeHits,
+    radius: u32,
+    kernel: &Prepared<'_>,
+    part: Run<'_>,
+    distances: &mut [u32],
+)
+    requires whole { length part.codes.now ≡ length part.labels.now * length kernel.now }
+    requires written { length part.labels.now ≤ length distances.old }
+    requires room { length part.labels.now ≤ found.old.spare }
+    ensures { found.new.items ≡ found.old.items ++ below radius (hits_on kernel.now
+        (rows_in (length kernel.now) part.entry.labels.now part.entry.codes.now)) }
+{
+    let distances = &mut distances[..part.labels.len()];
+    kernel.scan(part.codes, distances);
+    found.offer_below(radius, part.labels, distances);
 }

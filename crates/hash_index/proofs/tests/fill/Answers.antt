@@ -2,7 +2,7 @@ use Rattle.std.proofs.Common.{◌≡◌, ◌+◌, ◌*◌, ◌/◌, ◌≤◌, �
 use Rattle.bcodes.specs.Ranges.{load_limit}
 use Rattle.bcodes.specs.Value.{Row, HashValue, IndexValue, Bare, Hash, load_of, weight}
 use Rattle.bcodes.specs.Answers.{after_add, paired}
-use Rattle.hash_index.proofs.AddLemmas.{length-paired}
+use Rattle.row_lists.proofs.PutLemmas.{length-paired}
 use Rattle.hash_index.proofs.HashLemmas.{after_add_hash}
 use Rattle.hash_index.proofs.tests.fill.Goals as goal
 

@@ -1,10 +1,8 @@
-use Rattle.std.proofs.Common.{rules, ◌≡◌, ◌+◌, ◌<◌, ℕ, ℤ, pos, List, length, map, get_or, refl, sym, ap, ◌∙◌, arith}
-use Rattle.bcodes.specs.Value.{Row}
-use Rattle.code_pool.specs.Lists.{IsPart, label_of, list_at}
+use Rattle.std.proofs.Common.{◌≡◌, ◌+◌, pos, length, get_or, refl, ◌∙◌, arith}
+use Rattle.code_pool.specs.Lists.{label_of, list_at}
 use Rattle.std.proofs.lemmas.List.{length-map}
-use Rattle.ivf_index.specs.Table.{no_row}
-use Rattle.ivf_index.specs.Places.{labels_on}
-use Rattle.ivf_index.specs.Inside.{lists_in}
+use Rattle.code_pool.specs.Lists.{no_row}
+use Rattle.row_lists.specs.Rows.{lists_in}
 use Rattle.ivf_index.proofs.PlaceLemmas.{list_more, label_at}
 use Rattle.ivf_index.proofs.label_places.note_list.Goals as goal
 

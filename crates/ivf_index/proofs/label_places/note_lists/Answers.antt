@@ -1,5 +1,4 @@
-use Rattle.std.proofs.Common.{rules, ◌≡◌, ◌<◌, ◌≤◌, ℕ, List, length, get_or, false, refl, sym, ap, ◌∙◌, arith}
-use Rattle.ivf_index.specs.Inside.{lists_in}
+use Rattle.std.proofs.Common.{◌≡◌, length, arith}
 use Rattle.ivf_index.proofs.PlaceLemmas.{missing}
 use Rattle.ivf_index.proofs.label_places.note_lists.Goals as goal
 

@@ -1,10 +1,10 @@
-use Rattle.std.proofs.Common.{rules, ◌≡◌, ◌+◌, ◌<◌, ◌≤◌, ℕ, List, length, map, nat_abs, take, sym, ap, ◌∙◌, arith, subst}
+use Rattle.std.proofs.Common.{◌≡◌, ◌<◌, ℕ, length, map, take, sym, ap, ◌∙◌, arith, subst}
 use Rattle.std.specs.List.{All}
 use Rattle.std.proofs.lemmas.List.Elements.{All-take, All-weaker}
 use Rattle.bcodes.specs.declared.hit.Hit.{Hit}
 use Rattle.bcodes.specs.Ranges.{raised}
 use Rattle.bcodes.proofs.FormLemmas.{looked_flat}
-use Rattle.ivf_index.specs.Near.{IsNumber, count_in, lists_by, near_by}
+use Rattle.ivf_index.specs.Near.{IsNumber, count_in, near_by}
 use Rattle.ivf_index.proofs.NearLemmas.{number, found_small, numbers_found, numbers_known}
 use Rattle.ivf_index.proofs.near.near_lists.Goals as goal
 

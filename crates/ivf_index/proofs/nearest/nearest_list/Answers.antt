@@ -1,12 +1,11 @@
-use Rattle.std.proofs.Common.{◌≡◌, ◌+◌, ◌*◌, ◌/◌, ◌<◌, ◌≤◌, ℕ, List, inl, inr, length, take, drop, map, get_or, refl}
-use Rattle.std.proofs.Common.{sym, ap, ◌∙◌, arith, length-take, subst}
+use Rattle.std.proofs.Common.{◌≡◌, ◌*◌, ◌/◌, ◌≤◌, ℕ, List, inr, length, take, drop, get_or, refl}
+use Rattle.std.proofs.Common.{sym, ap, ◌∙◌, arith, length-take}
 use Rattle.std.proofs.lemmas.List.{length-map}
 use Rattle.bcodes.specs.Bits.{dist}
 use Rattle.bcodes.specs.Chunks.{chunks_of}
 use Rattle.bcodes.proofs.ChunkLemmas.{length-chunks_of}
 use Rattle.list_scan.proofs.RunLemmas.{distances_of, distances_of-le}
-use Rattle.ivf_index.specs.Near.{IsFirstLeast}
-use Rattle.ivf_index.proofs.NearestLemmas.{IsLeastOf, IsSoFar, distances, least_turns, least_stays, nearest_end}
+use Rattle.ivf_index.proofs.NearestLemmas.{IsLeastOf, distances, least_turns, least_stays, nearest_end}
 use Rattle.ivf_index.proofs.NearestLemmas.{run_distances, run_fits, run_within}
 use Rattle.ivf_index.proofs.nearest.nearest_list.Goals as goal
 use Rattle.ivf_index.proofs.nearest.nearest_list.Goals.{then-part-first, else-part-first}

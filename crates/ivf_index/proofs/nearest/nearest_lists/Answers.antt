@@ -1,4 +1,4 @@
-use Rattle.std.proofs.Common.{◌≡◌, ◌≤◌, length, ap, arith}
+use Rattle.std.proofs.Common.{length, ap, arith}
 use Rattle.ivf_index.proofs.nearest.nearest_lists.Goals as goal
 
 pub nearest_list-nearest-requires-clause-written : goal.nearest_list-nearest-requires-clause-written

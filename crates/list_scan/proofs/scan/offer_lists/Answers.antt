@@ -1,7 +1,5 @@
-use Rattle.std.proofs.Common.{rules, ◌≡◌, ◌+◌, ◌<◌, ◌≤◌, ◌++◌, ℕ, List, length, map, take, get_or, sym, ap, ◌∙◌}
-use Rattle.std.proofs.Common.{arith, length-take, length-append}
-use Rattle.std.proofs.lemmas.List.{length-map}
-use Rattle.bcodes.specs.declared.hit.Hit.{Hit}
+use Rattle.std.proofs.Common.{◌+◌, ◌<◌, ◌++◌, ℕ, length, map, take, get_or, sym, ap, ◌∙◌}
+use Rattle.std.proofs.Common.{arith}
 use Rattle.bcodes.specs.Counts.{Counts}
 use Rattle.bcodes.specs.Hits.{in_order}
 use Rattle.bcodes.specs.Ranges.{raised}

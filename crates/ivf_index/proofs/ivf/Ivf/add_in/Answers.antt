@@ -1,8 +1,8 @@
-use Rattle.std.proofs.Common.{rules, ◌≡◌, ◌++◌, ℕ, List, length, replicate, sym, ap, ◌∙◌, arith}
+use Rattle.std.proofs.Common.{rules, ◌≡◌, ◌++◌, ℕ, List, length, replicate, sym, ap, ◌∙◌}
 use Rattle.bcodes.specs.Value.{ListRow, IvfValue}
 use Rattle.bcodes.specs.Answers.{paired}
 use Rattle.ivf_index.specs.Table.{put_rows}
-use Rattle.ivf_index.proofs.PairedLemmas.{length-paired}
+use Rattle.row_lists.proofs.PutLemmas.{length-paired}
 use Rattle.ivf_index.proofs.AddLemmas.{put_rows-replicate}
 use Rattle.ivf_index.proofs.ivf.Ivf.add_in.Goals as goal
 

@@ -1,4 +1,4 @@
-use Rattle.std.proofs.Common.{rules, ◌≡◌, ◌+◌, ◌<◌, ◌≤◌, ◌++◌, ◌^◌, ℕ, ℤ, Bool, true, List, length, map, refl, sym}
+use Rattle.std.proofs.Common.{◌≡◌, ◌+◌, ◌<◌, ◌≤◌, ◌++◌, ℕ, Bool, true, List, length, map, refl, sym}
 use Rattle.std.proofs.Common.{ap, ◌∙◌, arith, subst}
 use Rattle.std.specs.declared.option.Option.{Option}
 use Rattle.std.specs.List.{All}
@@ -6,16 +6,16 @@ use Rattle.std.proofs.lemmas.Result.{err_from_is_err_and}
 use Rattle.bcodes.specs.Ranges.{load_limit}
 use Rattle.bcodes.specs.Value.{Row, ListRow, IvfValue, weight, labels_from}
 use Rattle.bcodes.specs.Answers.{paired}
-use Rattle.code_pool.specs.Lists.{PoolLists, list_at}
-use Rattle.ivf_index.specs.Table.{put_rows, put_on}
-use Rattle.ivf_index.specs.Room.{ArePlaces, IsMapped}
-use Rattle.ivf_index.proofs.RoomLemmas.{places_kept}
+use Rattle.ivf_index.specs.Table.{put_rows}
+use Rattle.row_lists.specs.Put.{put_on}
+use Rattle.ivf_index.specs.Entries.{ArePlaces}
+use Rattle.ivf_index.proofs.EntryLemmas.{places_kept}
 use Rattle.ivf_index.specs.Direct.{entries_of, has_map, extended}
-use Rattle.ivf_index.specs.Inside.{order_in, lists_in, rows_in_order}
-use Rattle.ivf_index.proofs.PairedLemmas.{length-paired}
+use Rattle.ivf_index.specs.Inside.{rows_in_order}
+use Rattle.row_lists.proofs.PutLemmas.{length-paired}
 use Rattle.ivf_index.proofs.VisitLemmas.{value_in}
 use Rattle.ivf_index.proofs.DirectLemmas.{has_map-extended}
-use Rattle.ivf_index.proofs.AddLemmas.{IsPrepared, IsAdded, rows_prepared, ivf_prepared, rows_added, ivf_added}
+use Rattle.ivf_index.proofs.AddLemmas.{IsAdded, rows_prepared, ivf_prepared, rows_added, ivf_added}
 use Rattle.ivf_index.proofs.AddLemmas.{rows_few, order_few, prepared, inside_load, labels-paired}
 use Rattle.ivf_index.proofs.ivf.Ivf.put.Goals as goal
 
@@ -32,8 +32,8 @@ reserve-requires-clause-few g c =
           (entries_of i.direct) i.quantizer i.order i.lists c.self.invariant load,
     )
 
-pub make_room-requires-clause-few : goal.make_room-requires-clause-few
-make_room-requires-clause-few g c = λ l.
+pub reserve_each-requires-clause-few : goal.reserve_each-requires-clause-few
+reserve_each-requires-clause-few g c = λ l.
     let i = c.self.inside in
     let v : IvfValue = value_in i.dim.bits i.nlist i.nprobe i.max_codes
     (entries_of i.direct) i.quantizer i.order i.lists in
@@ -56,52 +56,52 @@ put_all-requires-clause-few g c = λ l.
       c.requires.same_numbers,
       rows_few i.dim.bits i.nlist i.nprobe i.max_codes (length c.args.codes.now.codes)
           (entries_of i.direct) i.quantizer i.order i.lists c.self.invariant load l,
-      ap length (c.make_room.ensures.same.rows l),
+      ap length (c.reserve_each.ensures.same.rows l),
     )
 
-pub invariant_of-self-in_err-make_room : goal.invariant_of-self-in_err-make_room
-invariant_of-self-in_err-make_room g c =
+pub invariant_of-self-in_err-reserve_each : goal.invariant_of-self-in_err-reserve_each
+invariant_of-self-in_err-reserve_each g c =
     let i = c.self.inside in
-    let p = prepared i.order i.lists c.reserve.new.self c.make_room.new.lists c.len.result c.self.invariant.order_one
-    c.self.invariant.order_size c.in_ok-reserve.ensures.ok c.make_room.ensures.same in
+    let p = prepared i.order i.lists c.reserve.new.self c.reserve_each.new.lists c.len.result c.self.invariant.order_one
+    c.self.invariant.order_size c.in_ok-reserve.ensures.ok c.reserve_each.ensures.same in
     ivf_prepared i.dim.bits i.nlist i.nprobe i.max_codes (entries_of i.direct)
-    (entries_of i.direct) i.quantizer i.order i.lists c.reserve.new.self c.make_room.new.lists c.self.invariant p
+    (entries_of i.direct) i.quantizer i.order i.lists c.reserve.new.self c.reserve_each.new.lists c.self.invariant p
     refl
 
-pub returns-in_err-make_room-clause-err : goal.returns-in_err-make_room-clause-err
-returns-in_err-make_room-clause-err g c =
+pub returns-in_err-reserve_each-clause-err : goal.returns-in_err-reserve_each-clause-err
+returns-in_err-reserve_each-clause-err g c =
     let i = c.self.inside in
-    let p = prepared i.order i.lists c.reserve.new.self c.make_room.new.lists c.len.result c.self.invariant.order_one
-    c.self.invariant.order_size c.in_ok-reserve.ensures.ok c.make_room.ensures.same in
-    let e = err_from_is_err_and c.from_residual-in_err-make_room.result c.from_residual-in_err-make_room.ensures.1 in
+    let p = prepared i.order i.lists c.reserve.new.self c.reserve_each.new.lists c.len.result c.self.invariant.order_one
+    c.self.invariant.order_size c.in_ok-reserve.ensures.ok c.reserve_each.ensures.same in
+    let e = err_from_is_err_and c.from_residual-in_err-reserve_each.result c.from_residual-in_err-reserve_each.ensures.1 in
     rw e.1 (ap (λ (rows : List ListRow). record
     (value_in i.dim.bits i.nlist i.nprobe i.max_codes (entries_of i.direct) i.quantizer i.order i.lists)
-    { rows = rows }) (rows_prepared i.order i.lists c.reserve.new.self c.make_room.new.lists p) ∙ c.self.view_is)
+    { rows = rows }) (rows_prepared i.order i.lists c.reserve.new.self c.reserve_each.new.lists p) ∙ c.self.view_is)
 
 pub invariant_of-self-in_err-reserve_places : goal.invariant_of-self-in_err-reserve_places
 invariant_of-self-in_err-reserve_places g c =
     let i = c.self.inside in
-    let p = prepared i.order i.lists c.reserve.new.self c.make_room.new.lists c.len.result c.self.invariant.order_one
-    c.self.invariant.order_size c.in_ok-reserve.ensures.ok c.make_room.ensures.same in
+    let p = prepared i.order i.lists c.reserve.new.self c.reserve_each.new.lists c.len.result c.self.invariant.order_one
+    c.self.invariant.order_size c.in_ok-reserve.ensures.ok c.reserve_each.ensures.same in
     ivf_prepared i.dim.bits i.nlist i.nprobe i.max_codes (entries_of i.direct)
-    (entries_of c.reserve_places.new.direct) i.quantizer i.order i.lists c.reserve.new.self c.make_room.new.lists
+    (entries_of c.reserve_places.new.direct) i.quantizer i.order i.lists c.reserve.new.self c.reserve_each.new.lists
     c.self.invariant p c.in_err-reserve_places.ensures.entries
 
 pub returns-in_err-reserve_places-clause-err : goal.returns-in_err-reserve_places-clause-err
 returns-in_err-reserve_places-clause-err g c =
     let i = c.self.inside in
-    let p = prepared i.order i.lists c.reserve.new.self c.make_room.new.lists c.len.result c.self.invariant.order_one
-    c.self.invariant.order_size c.in_ok-reserve.ensures.ok c.make_room.ensures.same in
+    let p = prepared i.order i.lists c.reserve.new.self c.reserve_each.new.lists c.len.result c.self.invariant.order_one
+    c.self.invariant.order_size c.in_ok-reserve.ensures.ok c.reserve_each.ensures.same in
     let e = err_from_is_err_and c.from_residual-in_err-reserve_places.result
     c.from_residual-in_err-reserve_places.ensures.1 in
     rw e.1 (
     ap (λ (es : Option (List ℕ)). record
     (value_in i.dim.bits i.nlist i.nprobe i.max_codes
-    (entries_of i.direct) i.quantizer c.reserve.new.self c.make_room.new.lists) { direct = has_map es })
+    (entries_of i.direct) i.quantizer c.reserve.new.self c.reserve_each.new.lists) { direct = has_map es })
     c.in_err-reserve_places.ensures.entries
     ∙ ap (λ (rows : List ListRow). record
     (value_in i.dim.bits i.nlist i.nprobe i.max_codes (entries_of i.direct) i.quantizer i.order i.lists)
-    { rows = rows }) (rows_prepared i.order i.lists c.reserve.new.self c.make_room.new.lists p)
+    { rows = rows }) (rows_prepared i.order i.lists c.reserve.new.self c.reserve_each.new.lists p)
     ∙ c.self.view_is
     )
 
@@ -119,20 +119,20 @@ invariant_of-self-2 g c =
     (sym c.self.view_is) c.requires.known in
     let trained : length i.quantizer.codes ≡ i.nlist = subst (λ (w : IvfValue). length w.centroids ≡ w.nlist)
     (sym c.self.view_is) c.requires.is_trained in
-    let p = prepared i.order i.lists c.reserve.new.self c.make_room.new.lists c.len.result c.self.invariant.order_one
-    c.self.invariant.order_size c.in_ok-reserve.ensures.ok c.make_room.ensures.same in
+    let p = prepared i.order i.lists c.reserve.new.self c.reserve_each.new.lists c.len.result c.self.invariant.order_one
+    c.self.invariant.order_size c.in_ok-reserve.ensures.ok c.reserve_each.ensures.same in
     let a : IsAdded i.order i.lists c.put_all.new.order c.put_all.new.lists ns new = record {
       order_is = c.put_all.ensures.order ∙ ap (λ (os : List ℕ). os ++ ns) (p.order_is);
       order_one = c.put_all.ensures.order_one;
       order_size = c.put_all.ensures.order_size;
       rows_are = λ l. c.put_all.ensures.rows l
-          ∙ ap (λ (rs : List Row). rs ++ put_on l ns new) (c.make_room.ensures.same.rows l);
-      count = c.put_all.ensures.lists ∙ c.make_room.ensures.same.lists;
-      size = c.put_all.ensures.size ∙ c.make_room.ensures.same.size;
+          ∙ ap (λ (rs : List Row). rs ++ put_on l ns new) (c.reserve_each.ensures.same.rows l);
+      count = c.put_all.ensures.lists ∙ c.reserve_each.ensures.same.lists;
+      size = c.put_all.ensures.size ∙ c.reserve_each.ensures.same.size;
     } in
     let m = c.put_all.ensures.direct in
-    let at : ArePlaces i.lists ns (length ns) m.places = places_kept i.lists c.make_room.new.lists ns
-    (length ns) m.places c.make_room.ensures.same m.are in
+    let at : ArePlaces i.lists ns (length ns) m.places = places_kept i.lists c.reserve_each.new.lists ns
+    (length ns) m.places c.reserve_each.ensures.same m.are in
     let es : entries_of c.put_all.new.direct ≡ extended (entries_of i.direct) m.places
     = m.entries ∙ ap (λ (o : Option (List ℕ)). extended o m.places) c.in_ok-reserve_places.ensures.entries in
     let labels : has_map (entries_of i.direct) ≡ true
@@ -160,20 +160,20 @@ returns-clause-ok g c =
     let same : length ns ≡ length new = c.requires.same_numbers ∙ sym many in
     let known : All (λ (n : ℕ). n < i.nlist) ns = subst (λ (w : IvfValue). All (λ (n : ℕ). n < w.nlist) ns)
     (sym c.self.view_is) c.requires.known in
-    let p = prepared i.order i.lists c.reserve.new.self c.make_room.new.lists c.len.result c.self.invariant.order_one
-    c.self.invariant.order_size c.in_ok-reserve.ensures.ok c.make_room.ensures.same in
+    let p = prepared i.order i.lists c.reserve.new.self c.reserve_each.new.lists c.len.result c.self.invariant.order_one
+    c.self.invariant.order_size c.in_ok-reserve.ensures.ok c.reserve_each.ensures.same in
     let a : IsAdded i.order i.lists c.put_all.new.order c.put_all.new.lists ns new = record {
       order_is = c.put_all.ensures.order ∙ ap (λ (os : List ℕ). os ++ ns) (p.order_is);
       order_one = c.put_all.ensures.order_one;
       order_size = c.put_all.ensures.order_size;
       rows_are = λ l. c.put_all.ensures.rows l
-          ∙ ap (λ (rs : List Row). rs ++ put_on l ns new) (c.make_room.ensures.same.rows l);
-      count = c.put_all.ensures.lists ∙ c.make_room.ensures.same.lists;
-      size = c.put_all.ensures.size ∙ c.make_room.ensures.same.size;
+          ∙ ap (λ (rs : List Row). rs ++ put_on l ns new) (c.reserve_each.ensures.same.rows l);
+      count = c.put_all.ensures.lists ∙ c.reserve_each.ensures.same.lists;
+      size = c.put_all.ensures.size ∙ c.reserve_each.ensures.same.size;
     } in
     let m = c.put_all.ensures.direct in
-    let at : ArePlaces i.lists ns (length ns) m.places = places_kept i.lists c.make_room.new.lists ns
-    (length ns) m.places c.make_room.ensures.same m.are in
+    let at : ArePlaces i.lists ns (length ns) m.places = places_kept i.lists c.reserve_each.new.lists ns
+    (length ns) m.places c.reserve_each.ensures.same m.are in
     let es : has_map (entries_of c.put_all.new.direct) ≡ has_map (entries_of i.direct)
     = ap has_map (m.entries
     ∙ ap (λ (o : Option (List ℕ)). extended o m.places) c.in_ok-reserve_places.ensures.entries)

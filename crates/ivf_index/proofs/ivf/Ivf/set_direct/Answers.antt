@@ -3,9 +3,9 @@ use Rattle.std.proofs.Common.{arith, subst}
 use Rattle.bcodes.specs.Value.{ListRow, IvfValue, IsNumbering}
 use Rattle.bcodes.specs.declared.direct_error.DirectError.{DirectError}
 use Rattle.bcodes.specs.declared.direct_error.DirectError.TheVariants.{NotSequential}
-use Rattle.code_pool.specs.Lists.{list_at}
 use Rattle.ivf_index.specs.Direct.{entries_of, IsDirect, IsPlaced}
-use Rattle.ivf_index.specs.Inside.{order_in, lists_in, rows_in_order}
+use Rattle.row_lists.specs.Rows.{order_in, lists_in}
+use Rattle.ivf_index.specs.Inside.{rows_in_order}
 use Rattle.ivf_index.proofs.VisitLemmas.{count_is}
 use Rattle.ivf_index.proofs.AddLemmas.{lists_half, with_direct}
 use Rattle.ivf_index.proofs.PlaceLemmas.{gap_no, direct_of}

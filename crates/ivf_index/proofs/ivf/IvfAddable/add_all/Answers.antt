@@ -1,8 +1,6 @@
-use Rattle.std.proofs.Common.{rules, ◌≡◌, ◌+◌, ◌≤◌, ◌++◌, ℕ, List, length, map, sym, ap, ◌∙◌, arith, length-append}
-use Rattle.std.proofs.lemmas.List.{length-map}
-use Rattle.bcodes.specs.Ranges.{load_limit}
-use Rattle.bcodes.specs.Value.{ListRow, IvfValue, Ivf, Bare, weight}
-use Rattle.bcodes.specs.Answers.{paired, onto_nearest}
+use Rattle.std.proofs.Common.{◌≡◌, ◌++◌, ℕ, List, map, sym, ap, ◌∙◌}
+use Rattle.bcodes.specs.Value.{ListRow, IvfValue, Ivf, Bare}
+use Rattle.bcodes.specs.Answers.{paired}
 use Rattle.ivf_index.specs.Near.{nearest_by}
 use Rattle.ivf_index.specs.Table.{put_rows}
 use Rattle.ivf_index.proofs.AddLemmas.{after_add_ivf, onto_nearest_is, load_added}

@@ -1,4 +1,4 @@
-use Rattle.std.proofs.Common.{◌≡◌, refl, sym, ap, ◌∙◌}
+use Rattle.std.proofs.Common.{sym, ap, ◌∙◌}
 use Rattle.bcodes.specs.Value.{IvfValue, Ivf, Bare}
 use Rattle.ivf_index.proofs.SettingLemmas.{after_centroids_ivf, load_given}
 use Rattle.ivf_index.proofs.ivf.IvfListSettings.give_all.Goals as goal

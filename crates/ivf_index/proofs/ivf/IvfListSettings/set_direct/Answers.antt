@@ -1,4 +1,4 @@
-use Rattle.std.proofs.Common.{◌≡◌, List, map, true, subst, sym}
+use Rattle.std.proofs.Common.{map, subst, sym}
 use Rattle.bcodes.specs.Value.{ListRow, IvfValue, IsNumbering}
 use Rattle.ivf_index.proofs.SettingLemmas.{some_same}
 use Rattle.ivf_index.proofs.ivf.IvfListSettings.set_direct.Goals as goal

@@ -1,7 +1,0 @@
-use Rattle.std.proofs.Common.{◌≤◌, length, take}
-use Rattle.std.specs.List.{All}
-use Rattle.code_pool.specs.Lists.{list_at}
-use Rattle.hash_index.proofs.near.longest.Given as goal
-
-abbrev pub invariant-loop-list : goal.invariant-loop-list
-invariant-loop-list g l = All (λ n. length (list_at l.pool n).rows ≤ l.longest) (take l.list-index l.lists)

@@ -1,0 +1,5 @@
+pub mod FirstsLemmas
+pub mod OpenedLemmas
+pub mod RoomLemmas
+pub mod XorLemmas
+pub mod NearLemmas

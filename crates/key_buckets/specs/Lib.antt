@@ -1,0 +1,4 @@
+pub mod Keys
+pub mod Near
+pub mod Room
+pub mod Parts
