@@ -1,0 +1,13 @@
+pub mod ProbeLemmas
+pub mod SharpLemmas
+pub mod MarkLemmas
+pub mod SeenLemmas
+pub mod MeetLemmas
+pub mod MapsLemmas
+pub mod StoreLemmas
+pub mod PutLemmas
+pub mod MetLemmas
+pub mod MultiLemmas
+pub mod WideLemmas
+pub mod ViewLemmas
+pub mod PlaceLemmas

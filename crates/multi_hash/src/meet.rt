@@ -1,0 +1,137 @@
+ghost use Rattle.std.specs.Prelude.{◌≡◌, ℕ, ◌+◌, ◌*◌, ◌/◌, ◌<◌, ◌≤◌, List, [], ◌∷◌, length, map, nat_abs};
+ghost use Rattle.std.specs.Prelude.{nat_eq, IfOk, OnOk};
+ghost use Rattle.std.specs.List.{All, IsDistinct, flat_map, range_with_len};
+ghost use Rattle.std.specs.Map.{keys_of};
+ghost use Rattle.bcodes.specs.Ranges.{raised};
+ghost use Rattle.bcodes.specs.Value.{IsPlace};
+ghost use Rattle.multi_hash.specs.Inside.{IsPosition, lists_in, map_at};
+ghost use Rattle.multi_hash.specs.Meet.{asked_below, AreNumbered, met_under, positions_on};
+ghost use Rattle.multi_hash.specs.Seen.{first_met, IsSeen};
+
+use crate::Seen;
+use crate::tables::table;
+use bcodes::{Ledger, Meter, Want, chunk};
+use code_pool::Pool;
+use key_buckets::{KeyTable, near_buckets};
+use std::alloc::Global;
+
+/// The positions in the buckets whose keys are near to the query's, map by map, each where it is
+/// met first. Each key or bucket that is looked at raises the meter's `asked` by 1.
+///
+/// # Errors
+///
+/// If memory runs out. The meter's `asked` has then risen by no more than on success.
+pub fn meet<L: Ledger>(
+    alloc: Global,
+    maps: &[KeyTable],
+    buckets: &Pool<L>,
+    b: u32,
+    nflip: u32,
+    count: usize,
+    q: &[u8],
+    meter: &mut Meter<L>,
+) -> Result<Vec<usize>, Want>
+    requires b_least { 1 ≤ b }
+    requires b_most { b ≤ 64 }
+    requires flips_most { nflip ≤ b }
+    requires within { length maps.now * b ≤ 8 * length q.now }
+    requires nhash_most { length maps.now ≤ 1024 }
+    requires few { count ≤ 67108864 }
+    requires numbered { AreNumbered maps.now (length buckets.now.lists) }
+    requires places { (l : ℕ) → All (IsPosition count) (lists_in buckets.now l) }
+    ensures met { IfOk result (λ met. met.items ≡ first_met [] (flat_map
+        (met_under maps.now buckets.now b nflip q.now) (range_with_len 0 (length maps.now)))) }
+    ensures distinct { OnOk result ((i : ℕ) → i < length maps.now
+        → IsDistinct nat_eq (keys_of (map_at maps.now i))) }
+    ensures lent { meter.new.lent ≡ meter.old.lent }
+    ensures asked { OnOk result (meter.new.asked
+        ≡ raised meter.old.asked (asked_below maps.now b nflip (length maps.now))) }
+    ensures asked_least { meter.old.asked ≤ meter.new.asked }
+    ensures asked_most { meter.new.asked
+        ≤ meter.old.asked + asked_below maps.now b nflip (length maps.now) }
+{
+    let mut seen = Seen::new(alloc, count)?;
+    let mut met = Vec::new(alloc);
+    for i in 0..maps.len() {
+        let key = chunk(q, i as u32, b);
+        let near = near_buckets(alloc, table(maps, i), b, nflip, key, meter)?;
+        meet_lists(buckets, &near, &mut seen, &mut met)?;
+    }
+    Ok(met)
+}
+
+// Meets the positions on some lists.
+fn meet_lists<L: Ledger>(
+    buckets: &Pool<L>,
+    lists: &[u32],
+    seen: &mut Seen,
+    met: &mut Vec<usize>,
+) -> Result<(), Want>
+    requires known { All (λ l. l < length buckets.now.lists) lists.now }
+    requires places { (l : ℕ) → All (IsPosition (length seen.old)) (lists_in buckets.now l) }
+    requires seen { IsSeen (length seen.old) met.old.items seen.old }
+    ensures met { OnOk result (met.new.items
+        ≡ first_met met.old.items (flat_map (positions_on buckets.now) lists.now)) }
+    ensures seen { OnOk result (IsSeen (length seen.old) met.new.items seen.new) }
+    ensures count { length seen.new ≡ length seen.old }
+{
+    for list in lists {
+        meet_list(buckets, *list, seen, met)?;
+    }
+    Ok(())
+}
+
+// Meets the positions on a list.
+fn meet_list<L: Ledger>(
+    buckets: &Pool<L>,
+    list: u32,
+    seen: &mut Seen,
+    met: &mut Vec<usize>,
+) -> Result<(), Want>
+    requires known { list < length buckets.now.lists }
+    requires places { All (IsPosition (length seen.old)) (lists_in buckets.now list) }
+    requires seen { IsSeen (length seen.old) met.old.items seen.old }
+    ensures met { OnOk result (met.new.items
+        ≡ first_met met.old.items (positions_on buckets.now list)) }
+    ensures seen { OnOk result (IsSeen (length seen.old) met.new.items seen.new) }
+    ensures count { length seen.new ≡ length seen.old }
+{
+    let count = buckets.len(list);
+    let mut at = 0;
+    while at < count {
+        let run = buckets.labels(list, at);
+        at += run.len();
+        meet_run(run, seen, met)?;
+    }
+    Ok(())
+}
+
+// Meets positions, given as labels.
+fn meet_run(labels: &[i64], seen: &mut Seen, met: &mut Vec<usize>) -> Result<(), Want>
+    requires places { All (IsPlace (length seen.old)) labels.now }
+    requires seen { IsSeen (length seen.old) met.old.items seen.old }
+    ensures met { OnOk result (met.new.items
+        ≡ first_met met.old.items (map nat_abs labels.now)) }
+    ensures seen { OnOk result (IsSeen (length seen.old) met.new.items seen.new) }
+    ensures count { length seen.new ≡ length seen.old }
+{
+    for i in 0..labels.len() {
+        meet_one(labels[i] as usize, seen, met)?;
+    }
+    Ok(())
+}
+
+// Meets a position.
+fn meet_one(position: usize, seen: &mut Seen, met: &mut Vec<usize>) -> Result<(), Want>
+    requires place { position < length seen.old }
+    requires seen { IsSeen (length seen.old) met.old.items seen.old }
+    ensures met { OnOk result (met.new.items ≡ first_met met.old.items (position ∷ [])) }
+    ensures seen { OnOk result (IsSeen (length seen.old) met.new.items seen.new) }
+    ensures count { length seen.new ≡ length seen.old }
+{
+    if !seen.insert(position) {
+        return Ok(());
+    }
+    met.push(position)?;
+    Ok(())
+}
