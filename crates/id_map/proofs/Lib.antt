@@ -1,0 +1,3 @@
+pub mod RowLemmas
+pub mod HitLemmas
+pub mod SettingLemmas

@@ -1,0 +1,47 @@
+use Rattle.std.proofs.Common.{ap, ◌∙◌, arith}
+use Rattle.bcodes.specs.Ranges.{raised}
+use Rattle.bcodes.specs.Value.{IdMap}
+use Rattle.bcodes.specs.Answers.{best, looked}
+use Rattle.id_map.specs.Mapped.{MappedValue}
+use Rattle.id_map.proofs.HitLemmas.{best_mapped, best_places, looked_mapped}
+use Rattle.id_map.proofs.id_mapped.IdMappedBinaryIndex.search.Goals as goal
+
+pub put_ids-requires : goal.put_ids-requires
+put_ids-requires g c =
+    rw (c.in_ok-hits.ensures.ok, c.deref.ensures.value)
+    (best_places (g.I.BinaryIndex.value c.self.inside.inner) c.self.inside.ids.items c.args.q.now c.args.k c.self.invariant)
+
+pub returns-clause-ok : goal.returns-clause-ok
+returns-clause-ok g c =
+    rw (c.put_ids.ensures, c.in_ok-hits.ensures.ok, c.deref.ensures.value)
+    (best_mapped c.self.inside.name (g.I.BinaryIndex.value c.self.inside.inner) c.self.inside.ids.items c.args.q.now
+    c.args.k c.self.invariant
+    ∙ ap (λ (m : MappedValue). best (IdMap m.name m.inner m.ids) c.args.q.now c.args.k) c.self.view_is)
+
+pub returns-clause-lent : goal.returns-clause-lent
+returns-clause-lent g c =
+    c.in_ok-hits.ensures.lent
+    ∙ ap (raised c.args.meter.now.lent)
+    (looked_mapped c.self.inside.name (g.I.BinaryIndex.value c.self.inside.inner) c.self.inside.ids.items c.args.q.now
+    c.self.invariant
+    ∙ ap (λ (m : MappedValue). looked (IdMap m.name m.inner m.ids) c.args.q.now) c.self.view_is)
+
+pub returns-clause-lent_most : goal.returns-clause-lent_most
+returns-clause-lent_most g c =
+    omega (
+      arith,
+      c.in_ok-hits.ensures.lent_most,
+      looked_mapped c.self.inside.name (g.I.BinaryIndex.value c.self.inside.inner) c.self.inside.ids.items
+          c.args.q.now c.self.invariant
+          ∙ ap (λ (m : MappedValue). looked (IdMap m.name m.inner m.ids) c.args.q.now) c.self.view_is,
+    )
+
+pub returns-in_err-hits-clause-lent_most : goal.returns-in_err-hits-clause-lent_most
+returns-in_err-hits-clause-lent_most g c =
+    omega (
+      arith,
+      c.in_err-hits.ensures.lent_most,
+      looked_mapped c.self.inside.name (g.I.BinaryIndex.value c.self.inside.inner) c.self.inside.ids.items
+          c.args.q.now c.self.invariant
+          ∙ ap (λ (m : MappedValue). looked (IdMap m.name m.inner m.ids) c.args.q.now) c.self.view_is,
+    )
