@@ -1,3 +1,5 @@
 pub mod WordLemmas
 pub mod NumberLemmas
+pub mod IdLemmas
 pub mod GrammarLemmas
+pub mod ReadLemmas

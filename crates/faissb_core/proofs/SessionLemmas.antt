@@ -1,8 +1,12 @@
+pub mod CheckedLemmas
 pub mod MeterLemmas
 pub mod CodesLemmas
-pub mod AddLemmas
+pub mod DecodeLemmas
 pub mod OutcomeLemmas
 pub mod StepLemmas
+pub mod NewLemmas
+pub mod NumberingLemmas
+pub mod ChangeLemmas
 pub mod LegalLemmas
 pub mod MarkLemmas
-pub mod DecodeLemmas
+pub mod RoomLemmas

@@ -2,6 +2,7 @@ pub mod Checked
 pub mod State
 pub mod New
 pub mod Adding
+pub mod Settings
 pub mod Queries
 pub mod Step
 pub mod Script

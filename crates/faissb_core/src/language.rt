@@ -1,10 +1,13 @@
 // The language of a script: words, commands and lines.
 mod command;
 mod grammar;
+mod id;
+mod id_words;
 mod line;
 mod number;
 mod words;
 
 pub use command::{Command, IndexChange, IndexQuestion};
+pub use id_words::IdWords;
 pub use line::{Line, read_line};
 pub use words::{cut_at, first_word};

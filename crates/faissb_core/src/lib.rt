@@ -20,6 +20,9 @@ pub const K_LIMIT: u64 = 1_048_576;
 /// The greatest radius of a range search.
 pub const RADIUS_LIMIT: u64 = 2_147_483_647;
 
+/// The greatest setting of `nprobe` and `maxcodes`: the greatest signed number of 64 bits.
+pub const NUMBER_LIMIT: u64 = 9_223_372_036_854_775_807;
+
 /// The bytes of one piece of a reply. The last piece of a reply may be shorter.
 pub const PIECE: usize = 8_192;
 

@@ -5,6 +5,7 @@ mod new;
 mod queries;
 mod read_codes;
 mod session;
+mod settings;
 mod stop;
 
 pub use session::Session;

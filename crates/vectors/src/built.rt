@@ -126,3 +126,64 @@ fn every_byte_of_a_code_counts(rt: HostRuntime) -> Result<(), Fail> {
     }
     Ok(())
 }
+
+// Rows of two buckets, or of two lists, that came by turns.
+#[test]
+fn rows_that_came_by_turns_are_all_read(rt: HostRuntime) -> Result<(), Fail> {
+    let turns = " fe ff".repeat(rt.alloc(), 33_000)?;
+    for (start, before, looked) in [
+        ("new 8 BHash1", "ok\n", 33_001),
+        (
+            "new 8 BIVF2\ncentroids fe ff",
+            "ok\ncentroids 2 of 2\n",
+            33_003,
+        ),
+    ] {
+        let script = format!(in rt.alloc(); "{start}\nadd{turns}\nadd 00\nsearch 2 00\n")?;
+        let replies = format!(in rt.alloc();
+            "{before}added 66000 total 66000\nadded 1 total 66001\n\
+             hits 2 looked {looked} partial\n66000 0\n0 7\n"
+        )?;
+        check(
+            &rt,
+            rt.alloc(),
+            script.as_bytes(),
+            replies.as_str(),
+            Status::Fine,
+        )?;
+    }
+    Ok(())
+}
+
+// As many maps as there can be, over codes of as many bits as there can be.
+#[test]
+fn maps_of_every_chunk_are_asked(rt: HostRuntime) -> Result<(), Fail> {
+    let zeros = "00".repeat(rt.alloc(), 8_192)?;
+    let ones = "ff".repeat(rt.alloc(), 8_192)?;
+    // Only the last of its chunks is that of zeros.
+    let last = format!(in rt.alloc(); "{}0000000000000000", "01".repeat(rt.alloc(), 8_184)?)?;
+    let script = format!(in rt.alloc();
+        "new 65536 BHash1024x64\nadd {ones} {last}\nrange 1024 {zeros}\nrange 65536 {zeros}\n\
+         search 1 {ones}\n"
+    )?;
+    let replies = "ok\nadded 2 total 2\nhits 0 looked 1 exact\n\
+                   hits 1 looked 1 partial\n1 8184\nhits 1 looked 1 exact\n0 0\n";
+    check(&rt, rt.alloc(), script.as_bytes(), replies, Status::Fine)
+}
+
+// A row of 1,024 maps weighs 65,680, so that 16,348 rows are within the load limit.
+#[test]
+fn an_index_is_full_at_its_load_limit(rt: HostRuntime) -> Result<(), Fail> {
+    let code = format!(in rt.alloc(); " {}", "5a".repeat(rt.alloc(), 128)?)?;
+    let many = code.repeat(rt.alloc(), 4_000)?;
+    let rest = code.repeat(rt.alloc(), 346)?;
+    let two = code.repeat(rt.alloc(), 2)?;
+    let script = format!(in rt.alloc();
+        "new 1024 BHash1024x1\nadd{many}\nadd{many}\nadd{many}\nadd{many}\nadd{rest}\n\
+         add{two}{code}\nadd{two}\nadd{code}\n"
+    )?;
+    let replies = "ok\nadded 4000 total 4000\nadded 4000 total 8000\nadded 4000 total 12000\n\
+                   added 4000 total 16000\nadded 346 total 16346\nrefused load\n\
+                   added 2 total 16348\nrefused load\n";
+    check(&rt, rt.alloc(), script.as_bytes(), replies, Status::Refused)
+}

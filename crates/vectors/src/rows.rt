@@ -1,7 +1,12 @@
 // Scripts of a few lines, by what they are about.
 mod codes;
+mod factories;
+mod hashes;
+mod ids;
 mod indexes;
 mod lines;
+mod lists;
+mod maps;
 mod numbers;
 mod queries;
 mod refusals;
@@ -14,8 +19,13 @@ use std::test::Fail;
 fn rows_are_answered(rt: HostRuntime) -> Result<(), Fail> {
     for rows in [
         codes::ROWS.as_slice(),
+        factories::ROWS.as_slice(),
+        hashes::ROWS.as_slice(),
+        ids::ROWS.as_slice(),
         indexes::ROWS.as_slice(),
         lines::ROWS.as_slice(),
+        lists::ROWS.as_slice(),
+        maps::ROWS.as_slice(),
         numbers::ROWS.as_slice(),
         queries::ROWS.as_slice(),
         refusals::ROWS.as_slice(),

@@ -1,5 +1,5 @@
 -- A run that ends in a line that fails, in terms of the lines of its bytes.
-use Rattle.std.proofs.Common.{◌≡◌, ◌⊎◌, inl, inr, ℕ, ◌+◌, ◌-◌, ◌≤◌, min, List, [], ◌∷◌, ◌++◌, Option, Bool, ◌||◌}
+use Rattle.std.proofs.Common.{◌≡◌, inl, inr, ℕ, ◌+◌, ◌-◌, ◌≤◌, min, List, [], ◌∷◌, ◌++◌, Option, ◌||◌}
 use Rattle.std.proofs.Common.{IsTrue, length, take, get_or, refl, sym, ◌∙◌, ap, subst, arith, length-append}
 use Rattle.std.proofs.lemmas.List.{append_assoc, append-nil, take_at, take_min, take-append-le}
 use Rattle.std.proofs.Math.Seq.{take-append-add, get_or-append_seam}

@@ -7,7 +7,7 @@ use Rattle.std.proofs.lemmas.List.Elements.{recursion_from_All}
 use Rattle.faissb_core.specs.Runs.Limits.{line_kept}
 use Rattle.faissb_core.proofs.RunLemmas.Kept.{keep-keep}
 use Rattle.faissb_core.proofs.RunLemmas.Lines.{IsPart, plain_test}
-use Rattle.faissb_core.specs.Runs.Progress.{Held, Progress, beside, hold, hold_part, end_line, end_text, feed, fed_text}
+use Rattle.faissb_core.specs.Runs.Progress.{Held, Progress, beside, hold_part, end_line, end_text, feed, fed_text}
 use Rattle.faissb_core.specs.Runs.Progress.{fed_loads}
 use Rattle.faissb_core.specs.Language.Lines.{is_load}
 use Rattle.outside.specs.Contents.{Files, Contents, HasFiles, Fits}

@@ -1,5 +1,5 @@
 -- A run, read after read.
-use Rattle.std.proofs.Common.{◌≡◌, ◌≢◌, ℕ, ◌+◌, ◌<◌, ◌≤◌, Bool, true, false, Option, is_some, List, [], ◌++◌, length}
+use Rattle.std.proofs.Common.{◌≡◌, ℕ, ◌+◌, ◌<◌, ◌≤◌, Bool, true, false, Option, is_some, List, [], ◌++◌, length}
 use Rattle.std.proofs.Common.{take, refl, sym, ◌∙◌, ap, subst, inr, arith, length-append}
 use Rattle.std.specs.Io.KnownBytes.{Appends, Consumes, Keeps, IsAtEnd}
 use Rattle.std.proofs.KnownBytes.{Appends-nil, Appends-trans, Consumes-nil, Consumes-trans, Consumes-kept}
@@ -19,7 +19,6 @@ use Rattle.faissb_core.specs.Runs.Progress.{Progress, Held, nothing_held, beside
 use Rattle.faissb_core.specs.Runs.Progress.{if_none, last_loads, ComesTo}
 use Rattle.faissb_core.specs.Runs.LineFailure.{FaultLeaves, FailsAt, FeedFails}
 use Rattle.faissb_core.specs.Runs.InputEnd.{IsEndStatus, EndLeaves, InputEnds, LastLineFails}
-use Rattle.faissb_core.specs.Runs.Outcomes.{Feeds}
 use Rattle.faissb_core.specs.Runs.ScriptRun.{loads, line_feeds, AnswersAll, AnswersFirst, Reads, Leaves, IsScriptRun}
 use Rattle.faissb_core.proofs.RunLemmas.Lines.{take-ended_lines}
 use Rattle.faissb_core.proofs.RunLemmas.Steps.{text_after}

@@ -1,9 +1,11 @@
 -- Codes that are read word by word.
-use Rattle.std.proofs.Common.{◌≡◌, ℕ, suc, Option, Some, None, Ok, Err, List, [], ◌∷◌, ◌++◌, length, Bor, refl, sym}
+use Rattle.std.proofs.Common.{◌≡◌, ℕ, suc, Option, Some, None, Ok, Err, List, [], ◌∷◌, ◌++◌, length, map, ℤ, Bor, refl, sym}
 use Rattle.std.proofs.Common.{ap, ◌∙◌}
 use Rattle.std.proofs.lemmas.List.{append_assoc, append-nil}
+use Rattle.faissb_core.specs.declared.language.id_words.IdWords.{IdWords}
 use Rattle.faissb_core.specs.declared.reply.refusal.Refusal.{Refusal}
-use Rattle.faissb_core.specs.Language.Words.{Word, words_of}
+use Rattle.faissb_core.specs.Language.Words.{Word, IdWord, words_of}
+use Rattle.faissb_core.specs.Language.Grammar.{pairs_in}
 use Rattle.faissb_core.specs.Machine.Checked.{Checked, ◌>>=◌}
 use Rattle.faissb_core.specs.Machine.State.{code_of, codes_of}
 
@@ -16,6 +18,15 @@ words_left (Some text) = words_of text.now
 abbrev pub text_left : Option (Bor (List ℕ)) → ℕ
 text_left None = 0
 text_left (Some text) = suc (length text.now)
+
+-- the pairs that are left, and the bytes of their text
+abbrev pub pairs_left : Option IdWords → List IdWord
+pairs_left None = []
+pairs_left (Some words) = pairs_in words.text.now
+
+abbrev pub pairs_text_left : Option IdWords → ℕ
+pairs_text_left None = 0
+pairs_text_left (Some words) = suc (length words.text.now)
 
 -- codes behind others
 abbrev pub behind : List (List ℕ) → Checked (List (List ℕ)) → Checked (List (List ℕ))
@@ -48,3 +59,14 @@ codes_refused all first size left word words refusal so_far is read =
 -- no word is left
 pub codes_end : (all : Checked (List (List ℕ))) (first : List (List ℕ)) → all ≡ behind first (Ok []) → all ≡ Ok first
 codes_end all first so_far = so_far ∙ ap Ok (append-nil first)
+
+-- one id more
+pub ids_step : (all first : List ℤ) (left : List IdWord) (pair : IdWord) (pairs : List IdWord)
+    → all ≡ first ++ map (λ (p : IdWord). p.id) left → left ≡ pair ∷ pairs
+    → all ≡ (first ++ pair.id ∷ []) ++ map (λ (p : IdWord). p.id) pairs
+ids_step all first left pair pairs so_far is =
+    so_far ∙ ap (λ (ps : List IdWord). first ++ map (λ (p : IdWord). p.id) ps) is
+    ∙ sym (append_assoc first (pair.id ∷ []) (map (λ (p : IdWord). p.id) pairs))
+
+pub ids_end : (all first : List ℤ) → all ≡ first ++ [] → all ≡ first
+ids_end all first so_far = so_far ∙ append-nil first

@@ -1,16 +1,16 @@
 -- A word that is decoded pair by pair.
-use Rattle.std.proofs.Common.{◌≡◌, ℕ, suc, zero, ◌+◌, ◌*◌, ◌/◌, ◌%◌, ◌<◌, ◌≤◌, max, Option, Some, None, is_some}
+use Rattle.std.proofs.Common.{◌≡◌, ℕ, ◌+◌, ◌*◌, ◌%◌, ◌<◌, ◌≤◌, max, Option, Some, None, is_some}
 use Rattle.std.proofs.Common.{unwrap_or, Result, Ok, Err, List, [], ◌∷◌, ◌++◌, length, take, get_or, set, Bool}
-use Rattle.std.proofs.Common.{true, false, nat_lt, refl, sym, ap, ◌∙◌, subst, arith, length-take, length-set}
+use Rattle.std.proofs.Common.{true, false, nat_lt, refl, sym, ap, ◌∙◌, subst, arith, length-set}
 use Rattle.std.proofs.Common.{append_assoc}
 use Rattle.std.specs.Bool.{MatchBool}
 use Rattle.std.specs.List.{AllPass}
 use Rattle.std.proofs.lemmas.Bool.Decides.{nat_tests}
 use Rattle.std.specs.Result.{result_ok}
-use Rattle.std.proofs.lemmas.List.{take_more, take_more_set, take_all, get_or-take}
+use Rattle.std.proofs.lemmas.List.{take_more, take_more_set, take_all}
 use Rattle.hex.specs.declared.error.FromHexError.{FromHexError}
-use Rattle.hex.specs.Hex.{decode_pairs, decode_sized, decode_of, hex_digit_value, is_hex_digit, pair_value}
-use Rattle.hex.specs.Hex.{value_at, digit_or_error, ◌>>=◌}
+use Rattle.hex.specs.Hex.{decode_pairs, decode_sized, hex_digit_value, is_hex_digit, pair_value}
+use Rattle.hex.specs.Hex.{◌>>=◌}
 use Rattle.hex.proofs.HexLemmas.{decode_sized-ok, decode_sized-twice, decode_of-even, decode_of-ok}
 use Rattle.faissb_core.specs.declared.reply.refusal.Refusal.TheVariants.{Code}
 use Rattle.faissb_core.specs.Machine.Checked.{given◌else◌}

@@ -1,43 +1,50 @@
 -- Each step leads from a legal state to a legal one.
-use Rattle.std.proofs.Common.{◌≡◌, ℕ, ◌*◌, ◌/◌, ◌%◌, ◌≤◌, Bool, true, false, ◌&&◌, nat_le, eqb, Option, Some, None}
-use Rattle.std.proofs.Common.{is_some, Result, Ok, Err, List, [], ◌∷◌, ◌++◌, length, All, refl, sym, ap, ◌∙◌, subst}
-use Rattle.std.proofs.Common.{arith}
+use Rattle.std.proofs.Common.{◌≡◌, ℕ, suc, ◌+◌, ◌-◌, ◌*◌, ◌^◌, ◌<◌, ◌≤◌, ℤ, FitsSigned, w64, Bool, true, false, not}
+use Rattle.std.proofs.Common.{◌||◌, nat_le, nat_lt, Some, is_some, Result, Ok, Err}
+use Rattle.std.proofs.Common.{List, [], ◌∷◌, length, map, refl, sym, ap, ◌∙◌, subst, arith}
+use Rattle.std.specs.List.{All}
 use Rattle.std.specs.Result.{result_ok}
-use Rattle.std.proofs.lemmas.Bool.{and_parts}
-use Rattle.std.proofs.lemmas.Bool.Decides.{nat_tests}
-use Rattle.std.proofs.lemmas.List.Elements.{All-nil, All-cons, All-append}
-use Rattle.std.proofs.lemmas.List.{get_or_default}
+use Rattle.std.proofs.lemmas.Bool.{and_parts, leb-true, ltb-true}
+use Rattle.std.proofs.lemmas.List.{get_or_default, length-map}
+use Rattle.std.proofs.lemmas.List.Elements.{All-nil, All-cons}
 use Rattle.hex.specs.declared.error.FromHexError.{FromHexError}
 use Rattle.hex.specs.Hex.{decode_sized}
 use Rattle.hex.proofs.HexLemmas.{decode_sized-ok, decode_sized-twice, decode_of-ok}
-use Rattle.bcodes.specs.Ranges.{IsDim, is_dim, load_limit}
-use Rattle.bcodes.specs.Value.{CodeList, IndexValue, Bare, IdMap, Flat, Ivf, Hash, Multi, HasBytes, IsCode}
-use Rattle.bcodes.specs.Value.{IsLegalFlat, empty_flat, load_of, labels_from, count_of}
-use Rattle.bcodes.specs.Answers.{after_add}
-use Rattle.bcodes.proofs.FormLemmas.{load_flat}
+use Rattle.std.specs.Result.{IfOk}
+use Rattle.bcodes.specs.Ranges.{is_dim, load_limit}
+use Rattle.bcodes.specs.Value.{ListRow, IndexValue, HasBytes, IsLegal, IsNumbering}
+use Rattle.bcodes.specs.Value.{code_size, count_of, is_trained, labels_from, load_of, takes_ids}
+use Rattle.bcodes.specs.Settings.{ivf_in, key_bits, needs_ids, is_numbering}
+use Rattle.bcodes.specs.Answers.{after_add, after_centroids}
+use Rattle.bcodes.proofs.NumberedLemmas.{length-labels_from}
+use Rattle.factory_text.specs.Printing.{fits}
+use Rattle.factory_text.specs.Reading.{read_spec}
+use Rattle.any_index.proofs.LoadLemmas.{few_after_add}
 use Rattle.outside.specs.Contents.{Files}
-use Rattle.faissb_core.specs.declared.reply.refusal.Refusal.TheVariants.{Code, Dim, Factory, Value, Load}
-use Rattle.faissb_core.specs.declared.reply.factory_word.FactoryWord.TheVariants.{Unknown}
-use Rattle.faissb_core.specs.Language.Words.{Word}
-use Rattle.faissb_core.specs.Language.Command.{Command, New, Change, Ask, IndexChange, IndexQuestion, Add}
+use Rattle.faissb_core.specs.declared.reply.refusal.Refusal.TheVariants.{Code, Dim, Factory, Ids, Kind, Value, Full, Untrained}
+use Rattle.faissb_core.specs.declared.reply.refusal.Refusal.TheVariants.{Load, NoIndex, Sequential}
+use Rattle.faissb_core.specs.declared.reply.factory_word.FactoryWord.TheVariants.{Misfit}
+use Rattle.faissb_core.specs.Language.Words.{Word, IdWord}
+use Rattle.faissb_core.specs.Language.Command.{Command, New, Change, Ask, IndexChange, Add, AddIds, Centroids}
+use Rattle.faissb_core.specs.Language.Command.{Nprobe, Nflip, MaxCodes, DirectMap}
 use Rattle.faissb_core.specs.Language.Lines.{Line, TooLong, Silent, Whole, Broken, line_of}
-use Rattle.faissb_core.specs.Reply.Answer.{Answer, Done, Added}
-use Rattle.faissb_core.specs.Machine.Checked.{Checked, given◌else◌, demand◌else◌, ◌>>=◌, ◌>>◌}
-use Rattle.faissb_core.specs.Machine.State.{State, Changed, changed, leaves, code_of, codes_of}
-use Rattle.faissb_core.specs.Machine.New.{is_flat}
-use Rattle.faissb_core.specs.Machine.Step.{step, step_with, line_outcome, command_outcome, ask}
-use Rattle.faissb_core.specs.Machine.Legal.{IsLegalState}
-use Rattle.faissb_core.proofs.SessionLemmas.AddLemmas.{flat_after, flat_with}
+use Rattle.faissb_core.specs.Machine.Checked.{Checked, given◌else◌, demand◌else◌, ◌>>=◌, is_within}
+use Rattle.faissb_core.specs.Machine.State.{State, Outcome, Changed, code_of, codes_of}
+use Rattle.faissb_core.specs.Machine.New.{new_index, word_of}
+use Rattle.faissb_core.specs.Machine.Adding.{add, add_ids, append, give_centroids, is_light}
+use Rattle.faissb_core.specs.Machine.Settings.{set_nprobe, set_nflip, set_max_codes, set_direct}
+use Rattle.faissb_core.specs.Machine.Step.{step, step_with, line_outcome, command_outcome, change, ask}
+use Rattle.faissb_core.specs.Machine.Legal.{IsLegalIndex, IsLegalState}
+use Rattle.faissb_core.proofs.LanguageLemmas.ReadLemmas.{IsReadCommand, IsReadLine, line_is_read}
+use Rattle.faissb_core.proofs.SessionLemmas.CheckedLemmas.{given_value, bind_gives, demand_gives, given_gives}
+use Rattle.faissb_core.proofs.SessionLemmas.CheckedLemmas.{accept_gives}
+use Rattle.faissb_core.proofs.SessionLemmas.ChangeLemmas.{labels_fit, legal_after_add, legal_after_centroids}
+use Rattle.faissb_core.proofs.SessionLemmas.ChangeLemmas.{legal_ivf_in, legal_with_ivf, legal_nprobe, legal_max_codes}
+use Rattle.faissb_core.proofs.SessionLemmas.ChangeLemmas.{legal_direct, legal_with_nflip}
+use Rattle.faissb_core.proofs.SessionLemmas.NumberingLemmas.{numbering_tested}
+use Rattle.faissb_core.proofs.SessionLemmas.NewLemmas.{dim_is, legal_empty, numbers_read}
 
-dim_is : (bits : ℕ) → is_dim bits ≡ true → IsDim bits
-dim_is bits test =
-    let outer = and_parts (eqb (bits % 8) 0) (nat_le 8 bits && nat_le bits 65536) test in
-    let inner = and_parts (nat_le 8 bits) (nat_le bits 65536) outer.1 in
-    record {
-      whole_bytes = search (arith, nat_tests);
-      at_least = search (arith, nat_tests);
-      at_most = search (arith, nat_tests);
-    }
+-- ---- what words write
 
 ok_is : (read : Result (List ℕ) FromHexError) (code : List ℕ) → (given result_ok read else Code) ≡ Ok code
     → read ≡ Ok code
@@ -69,7 +76,7 @@ parts_of (Err e) rest added is = cc
 parts_of (Ok code) (Err e) added is = cc
 parts_of (Ok code) (Ok more) added is = record { code = code; more = more; first_is = refl; rest_is = refl; both = cc }
 
-codes_are : (size : ℕ) (words : List Word) (added : List (List ℕ)) → codes_of size words ≡ Ok added
+pub codes_are : (size : ℕ) (words : List Word) (added : List (List ℕ)) → codes_of size words ≡ Ok added
     → All (HasBytes size) added
 codes_are size [] added is = let none : [] ≡ added = cc in
     subst (λ cs. All (HasBytes size) cs) none (All-nil (HasBytes size))
@@ -79,6 +86,126 @@ codes_are size (word ∷ words) added is =
     (All-cons (HasBytes size) p.code p.more (code_is size word p.code p.first_is)
     (codes_are size words p.more p.rest_is))
 
+-- as many codes as words
+pub length-codes_of : (size : ℕ) (words : List Word) (added : List (List ℕ)) → codes_of size words ≡ Ok added
+    → length added ≡ length words
+length-codes_of size [] added is = let none : [] ≡ added = cc in rw (sym none) refl
+length-codes_of size (word ∷ words) added is =
+    let p = parts_of (code_of size word) (codes_of size words) added is in
+    rw (sym p.both) (ap suc (length-codes_of size words p.more p.rest_is))
+
+-- ---- changes
+
+abbrev IsLegalChange : Changed → Type 0
+IsLegalChange done = IsLegal done.index
+
+new_legal : (bits : ℕ) (text : Word) → IfOk (new_index bits text) IsLegal
+new_legal bits text =
+    demand_gives IsLegal (is_dim bits) Dim _ (λ dim.
+    accept_gives IsLegal (read_spec text) (λ e. Factory (word_of e)) _ (λ spec read.
+    demand_gives IsLegal (fits spec bits) (Factory Misfit) _ (λ fit.
+    legal_empty spec bits (dim_is bits dim) (numbers_read text spec read) fit)))
+
+append_legal : (v : IndexValue) (labels : List ℤ) (added : List (List ℕ)) → IsLegal v
+    → All (HasBytes (code_size v)) added → length labels ≡ length added
+    → (takes_ids v ≡ false → labels ≡ labels_from (count_of v) (length added))
+    → (load_of (after_add v labels added) ≤ load_limit → All (FitsSigned w64) labels)
+    → IfOk (append labels added v) IsLegalChange
+append_legal v labels added legal codes same places fit =
+    demand_gives IsLegalChange (is_trained v) Untrained _ (λ trained.
+    demand_gives IsLegalChange (is_light (after_add v labels added)) Load _ (λ test.
+    let light : load_of (after_add v labels added) ≤ load_limit
+    = leb-true (load_of (after_add v labels added)) load_limit test in
+    legal_after_add v labels added legal (fit light) codes same trained places light))
+
+add_legal : (words : List Word) (v : IndexValue) → IsLegal v → IfOk (add words v) IsLegalChange
+add_legal words v legal =
+    bind_gives IsLegalChange (codes_of (code_size v) words) _ (λ added read.
+    demand_gives IsLegalChange (not (needs_ids v)) Ids _ (λ plain.
+    let labels : List ℤ = labels_from (count_of v) (length added) in
+    let same : length labels ≡ length added = length-labels_from (count_of v) (length added) in
+    append_legal v labels added legal (codes_are (code_size v) words added read) same (λ _. refl)
+    (λ light. labels_fit (count_of v) (length added) (few_after_add v labels added same light))))
+
+taken : (v : IndexValue) (labels other : List ℤ) → takes_ids v ≡ true → takes_ids v ≡ false → labels ≡ other
+taken v labels other takes takes_not = absurd cc
+
+add_ids_legal : (pairs : List IdWord) (v : IndexValue) → IsLegal v
+    → All (FitsSigned w64) (map (λ (p : IdWord). p.id) pairs) → IfOk (add_ids pairs v) IsLegalChange
+add_ids_legal pairs v legal fit =
+    bind_gives IsLegalChange (codes_of (code_size v) (map (λ (p : IdWord). p.word) pairs)) _ (λ added read.
+    demand_gives IsLegalChange (takes_ids v) Ids _ (λ takes.
+    let ids : List ℤ = map (λ (p : IdWord). p.id) pairs in
+    let same : length ids ≡ length added = length-map pairs (λ (p : IdWord). p.id)
+    ∙ sym (length-map pairs (λ (p : IdWord). p.word))
+    ∙ sym (length-codes_of (code_size v) (map (λ (p : IdWord). p.word) pairs) added read) in
+    append_legal v ids added legal
+    (codes_are (code_size v) (map (λ (p : IdWord). p.word) pairs) added read) same
+    (taken v ids (labels_from (count_of v) (length added)) takes) (λ _. fit)))
+
+centroids_legal : (words : List Word) (v : IndexValue) → IsLegal v → IfOk (give_centroids words v) IsLegalChange
+centroids_legal words v legal =
+    bind_gives IsLegalChange (codes_of (code_size v) words) _ (λ more read.
+    given_gives IsLegalChange (ivf_in v) Kind _ (λ ivf is.
+    demand_gives IsLegalChange (nat_le (length ivf.centroids + length more) ivf.nlist) Full _ (λ few.
+    demand_gives IsLegalChange (is_light (after_centroids v more)) Load _ (λ light.
+    legal_after_centroids v ivf more legal is (codes_are (code_size v) words more read)
+    (leb-true (length ivf.centroids + length more) ivf.nlist few)
+    (leb-true (load_of (after_centroids v more)) load_limit light)))))
+
+-- a number within its range
+within : (n : ℕ) → is_within 1 (2 ^ 63 - 1) n ≡ true → (1 ≤ n) × (n < 2 ^ 63)
+within n test =
+    let p = and_parts (nat_le 1 n) (nat_le n (2 ^ 63 - 1)) test in
+    let most = leb-true n (2 ^ 63 - 1) p.1 in
+    (leb-true 1 n p.0, omega arith)
+
+nprobe_legal : (n : ℕ) (v : IndexValue) → IsLegal v → IfOk (set_nprobe n v) IsLegalChange
+nprobe_legal n v legal =
+    given_gives IsLegalChange (ivf_in v) Kind _ (λ ivf is.
+    demand_gives IsLegalChange (is_within 1 (2 ^ 63 - 1) n) Value _ (λ test.
+    let range = within n test in
+    legal_with_ivf v ivf (record ivf { nprobe = n }) legal is
+    (legal_nprobe ivf n (legal_ivf_in v ivf legal is) range.0 range.1) refl))
+
+max_codes_legal : (n : ℕ) (v : IndexValue) → IsLegal v → IfOk (set_max_codes n v) IsLegalChange
+max_codes_legal n v legal =
+    given_gives IsLegalChange (ivf_in v) Kind _ (λ ivf is.
+    demand_gives IsLegalChange (nat_lt n (2 ^ 63)) Value _ (λ test.
+    legal_with_ivf v ivf (record ivf { max_codes = n }) legal is
+    (legal_max_codes ivf n (legal_ivf_in v ivf legal is) (ltb-true n (2 ^ 63) test)) refl))
+
+nflip_legal : (n : ℕ) (v : IndexValue) → IsLegal v → IfOk (set_nflip n v) IsLegalChange
+nflip_legal n v legal =
+    given_gives IsLegalChange (key_bits v) Kind _ (λ bits is.
+    demand_gives IsLegalChange (nat_le n bits) Value _ (λ test.
+    legal_with_nflip v n bits legal is (leb-true n bits test)))
+
+numbers_where_on : (on : Bool) (labels : List ℤ) → (not on || is_numbering labels) ≡ true → on ≡ true
+    → IsNumbering labels
+numbers_where_on true labels test is = numbering_tested labels test
+numbers_where_on false labels test is = absurd cc
+
+direct_legal : (on : Bool) (v : IndexValue) → IsLegal v → IfOk (set_direct on v) IsLegalChange
+direct_legal on v legal =
+    given_gives IsLegalChange (ivf_in v) Kind _ (λ ivf is.
+    let labels : List ℤ = map (λ (row : ListRow). row.label) ivf.rows in
+    demand_gives IsLegalChange (not on || is_numbering labels) Sequential _ (λ test.
+    legal_with_ivf v ivf (record ivf { direct = on }) legal is
+    (legal_direct ivf on (legal_ivf_in v ivf legal is) (numbers_where_on on labels test)) refl))
+
+change_legal : (c : IndexChange) (v : IndexValue) → IsReadCommand (Change c) → IsLegal v
+    → IfOk (change c v) IsLegalChange
+change_legal (Add words) v read legal = add_legal words v legal
+change_legal (AddIds pairs) v read legal = add_ids_legal pairs v legal read
+change_legal (Centroids words) v read legal = centroids_legal words v legal
+change_legal (Nprobe n) v read legal = nprobe_legal n v legal
+change_legal (Nflip n) v read legal = nflip_legal n v legal
+change_legal (MaxCodes n) v read legal = max_codes_legal n v legal
+change_legal (DirectMap on) v read legal = direct_legal on v legal
+
+-- ---- steps
+
 -- a state that follows another
 pub record Follows (before after : State) : Type 0 where
   pub legal : IsLegalState after
@@ -87,96 +214,40 @@ pub record Follows (before after : State) : Type 0 where
 stays : (s : State) → IsLegalState s → Follows s s
 stays s legal = record { legal = legal; some = λ is. is }
 
-legal_empty : (bits : ℕ) → IsDim bits → IsLegalFlat (empty_flat bits)
-legal_empty bits dim = record {
-  dim = dim;
-  codes = All-nil (IsCode bits);
-  load = omega (arith, load_flat (empty_flat bits));
-}
+-- a legal index in a state
+now_holds : (s : State) (v : IndexValue) → IsLegal v → Follows s (record s { index = Some v })
+now_holds s v legal = record { legal = record { index = legal }; some = λ _. refl }
 
-abbrev holding : IndexValue → State
-holding v = record { index = Some v }
+pub held_legal : (s : State) (v : IndexValue) → IsLegalState s → s.index ≡ Some v → IsLegal v
+held_legal s v legal is = subst IsLegalIndex is legal.index
 
-new_follows : (s : State) (files : Files) (bits : ℕ) (dim flat : Bool) → IsLegalState s → (dim ≡ true → IsDim bits)
-    → Follows s (step_with s files
-    (((demand dim else Dim) >> ((demand flat else (Factory Unknown)) >> Ok (Bare (Flat (empty_flat bits))))) >>=
-    (λ v. leaves (record s { index = Some v }) Done files))).state
-new_follows s files bits false flat legal is = stays s legal
-new_follows s files bits true false legal is = stays s legal
-new_follows s files bits true true legal is = record
-    { legal = record { index = (legal_empty bits (is refl), tt) }; some = λ _. refl }
+command_follows : (s : State) (files : Files) (command : Command) → IsReadCommand command → IsLegalState s
+    → IfOk (command_outcome command s files) (λ o. Follows s o.state)
+command_follows s files (New bits text) read legal =
+    bind_gives (λ o. Follows s o.state) (new_index bits text) _ (λ v is.
+    now_holds s v (given_value IsLegal (new_index bits text) v (new_legal bits text) is))
+command_follows s files (Change c) read legal =
+    given_gives (λ o. Follows s o.state) s.index NoIndex _ (λ v holds.
+    bind_gives (λ o. Follows s o.state) (change c v) _ (λ done is.
+    now_holds s done.index (given_value IsLegalChange (change c v) done
+    (change_legal c v read (held_legal s v legal holds)) is)))
+command_follows s files (Ask question) read legal =
+    given_gives (λ o. Follows s o.state) s.index NoIndex _ (λ v holds.
+    bind_gives (λ o. Follows s o.state) (ask question v) _ (λ answer is. stays s legal))
 
-light_enough : (load : ℕ) → true ≡ nat_le load load_limit → load ≤ load_limit
-light_enough load test = grind (arith, nat_tests)
+line_follows : (s : State) (files : Files) (line : Line) → IsReadLine line → IsLegalState s
+    → IfOk (line_outcome line s files) (λ o. Follows s o.state)
+line_follows s files TooLong read legal = tt
+line_follows s files Silent read legal = stays s legal
+line_follows s files (Whole command) read legal = command_follows s files command read legal
+line_follows s files Broken read legal = tt
 
-added_follows : (v : CodeList) (files : Files) (added : List (List ℕ)) (light : Bool) (answer : Answer)
-    → IsLegalState (holding (Bare (Flat v))) → All (HasBytes (v.dim / 8)) added
-    → light ≡ nat_le (load_of (after_add (Bare (Flat v)) (labels_from (length v.codes) (length added)) added)) load_limit
-    → Follows (holding (Bare (Flat v))) (step_with (holding (Bare (Flat v))) files
-    (((demand light else Load) >> changed
-    (after_add (Bare (Flat v)) (labels_from (length v.codes) (length added)) added) answer) >>=
-    (λ d. leaves (holding d.index) d.answer files))).state
-added_follows v files added false answer legal codes test = stays (holding (Bare (Flat v))) legal
-added_follows v files added true answer legal codes test =
-    let after = flat_after v added in
-    let new : IsLegalFlat (flat_with v added) = record {
-      dim = legal.index.0.dim;
-      codes = All-append (IsCode v.dim) v.codes added legal.index.0.codes codes;
-      load = omega (arith, light_enough _ test, ap load_of after);
-    } in
-    record { legal = subst (λ w. IsLegalState (holding w)) (sym after) (record { index = (new, tt) }); some = λ _. refl }
-
-add_follows : (v : CodeList) (files : Files) (read : Checked (List (List ℕ)))
-    → IsLegalState (holding (Bare (Flat v)))
-    → ((added : List (List ℕ)) → read ≡ Ok added → All (HasBytes (v.dim / 8)) added)
-    → Follows (holding (Bare (Flat v))) (step_with (holding (Bare (Flat v))) files
-    ((read >>= (λ added. let w = after_add (Bare (Flat v)) (labels_from (length v.codes) (length added)) added in
-    (demand (nat_le (load_of w) load_limit) else Load) >> changed w (Added (length added) (count_of w)))) >>=
-    (λ d. leaves (holding d.index) d.answer files))).state
-add_follows v files (Err e) legal codes = stays (holding (Bare (Flat v))) legal
-add_follows v files (Ok added) legal codes = added_follows v files added
-    (nat_le (load_of (after_add (Bare (Flat v)) (labels_from (length v.codes) (length added)) added)) load_limit) _
-    legal (codes added refl) refl
-
--- a question leaves the state
-ask_follows : (s : State) (files : Files) (answer : Checked Answer) → IsLegalState s
-    → Follows s (step_with s files (answer >>= (λ a. leaves s a files))).state
-ask_follows s files (Ok answer) legal = stays s legal
-ask_follows s files (Err e) legal = stays s legal
-
-change_follows : (index : Option IndexValue) (files : Files) (c : IndexChange) → IsLegalState (record { index = index })
-    → Follows (record { index = index })
-    (step_with (record { index = index }) files
-    (command_outcome (Change c) (record { index = index }) files)).state
-change_follows None files c legal = stays (record { index = None }) legal
-change_follows (Some (Bare (Flat v))) files (Add words) legal = add_follows v files (codes_of (v.dim / 8) words) legal
-    (codes_are (v.dim / 8) words)
-change_follows (Some (Bare (Ivf v))) files c legal = absurd legal.index.1
-change_follows (Some (Bare (Hash v))) files c legal = absurd legal.index.1
-change_follows (Some (Bare (Multi v))) files c legal = absurd legal.index.1
-change_follows (Some (IdMap name v ids)) files c legal = absurd legal.index.1
-
-question_follows : (index : Option IndexValue) (files : Files) (question : IndexQuestion)
-    → IsLegalState (record { index = index })
-    → Follows (record { index = index })
-    (step_with (record { index = index }) files
-    (command_outcome (Ask question) (record { index = index }) files)).state
-question_follows None files question legal = stays (record { index = None }) legal
-question_follows (Some v) files question legal = ask_follows (holding v) files (ask question v) legal
-
-command_follows : (s : State) (files : Files) (command : Command) → IsLegalState s
-    → Follows s (step_with s files (command_outcome command s files)).state
-command_follows s files (New bits text) legal = new_follows s files bits (is_dim bits) (is_flat text) legal (dim_is bits)
-command_follows s files (Change c) legal = change_follows s.index files c legal
-command_follows s files (Ask question) legal = question_follows s.index files question legal
-
-line_follows : (s : State) (files : Files) (line : Line) → IsLegalState s
-    → Follows s (step_with s files (line_outcome line s files)).state
-line_follows s files TooLong legal = stays s legal
-line_follows s files Silent legal = stays s legal
-line_follows s files (Whole command) legal = command_follows s files command legal
-line_follows s files Broken legal = stays s legal
+step_with_follows : (s : State) (files : Files) (c : Checked Outcome) → IsLegalState s
+    → IfOk c (λ o. Follows s o.state) → Follows s (step_with s files c).state
+step_with_follows s files (Ok o) legal follows = follows
+step_with_follows s files (Err e) legal follows = stays s legal
 
 pub step_follows : (s : State) (files : Files) (line : List ℕ) → IsLegalState s → Follows s (step s files line).state
 unfolding step
-step_follows s files line legal = line_follows s files (line_of line) legal
+step_follows s files line legal = step_with_follows s files (line_outcome (line_of line) s files) legal
+    (line_follows s files (line_of line) (line_is_read line) legal)

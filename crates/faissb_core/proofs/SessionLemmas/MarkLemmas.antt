@@ -1,128 +1,259 @@
 -- A marked answer is that of a full scan.
-use Rattle.std.proofs.Common.{◌≡◌, ℕ, ◌/◌, Bool, true, false, ◌&&◌, nat_le, Option, Some, None, Ok, Err, List, []}
-use Rattle.std.proofs.Common.{◌∷◌, length, refl, sym, ap, ◌∙◌, subst}
-use Rattle.bcodes.specs.Ranges.{is_dim, load_limit}
+use Rattle.std.proofs.Common.{◌≡◌, ◌≤◌, ◌+◌, ◌-◌, ◌*◌, ◌^◌, ℕ, ℤ, Bool, true, false, not, ◌||◌, nat_le, nat_lt, length, map, Option, Some, Ok, Err, List, [], ◌∷◌}
+use Rattle.std.proofs.Common.{refl, sym, ap, ◌∙◌, subst}
+use Rattle.std.proofs.lemmas.Bool.{le-leb}
+use Rattle.std.specs.Result.{IfOk}
 use Rattle.bcodes.specs.declared.hit.Hit.{Hit}
-use Rattle.bcodes.specs.Value.{CodeList, IndexValue, Bare, IdMap, Flat, Ivf, Hash, Multi, empty_flat, load_of}
-use Rattle.bcodes.specs.Value.{labels_from, count_of}
-use Rattle.bcodes.specs.Answers.{best, within, scan_best, scan_within, looked, after_add}
-use Rattle.bcodes.specs.Marks.{search_mark, range_mark}
-use Rattle.bcodes.proofs.FormLemmas.{scan_best_flat, scan_within_flat}
+use Rattle.bcodes.specs.Value.{ListRow, Flat, Ivf, Hash, Multi, MultiValue, IndexValue, Bare, IdMap, IsLegal, code_size}
+use Rattle.bcodes.specs.Value.{count_of, is_trained, labels_from, takes_ids}
+use Rattle.bcodes.specs.Settings.{ivf_in, multi_in, key_bits, needs_ids, is_numbering}
+use Rattle.bcodes.specs.Answers.{best, within, scan_best, scan_within, looked, bound_of, after_add, after_centroids}
+use Rattle.bcodes.specs.Marks.{search_mark, range_mark, probes_all}
+use Rattle.bcodes.proofs.MarkedLemmas.{marked_best, marked_within}
 use Rattle.outside.specs.Contents.{Files}
 use Rattle.faissb_core.specs.declared.reply.reply.Reply.{Reply}
 use Rattle.faissb_core.specs.declared.reply.refusal.Refusal.{Refusal}
-use Rattle.faissb_core.specs.declared.reply.refusal.Refusal.TheVariants.{Dim, Factory, Value, Load}
-use Rattle.faissb_core.specs.declared.reply.factory_word.FactoryWord.TheVariants.{Unknown}
-use Rattle.faissb_core.specs.Language.Command.{Command, New, Change, Ask, Add, Search, Range}
+use Rattle.faissb_core.specs.declared.reply.refusal.Refusal.TheVariants.{Ids, Kind, NoIndex, Value, Full, Untrained, Load}
+use Rattle.faissb_core.specs.declared.reply.refusal.Refusal.TheVariants.{NoDirect, Sequential}
+use Rattle.any_index.specs.Labels.{finds_labels, code_labelled}
+use Rattle.faissb_core.specs.Language.Words.{Word, IdWord}
+use Rattle.faissb_core.specs.Language.Command.{Command, New, Change, Ask, IndexChange, Add, AddIds, Centroids}
+use Rattle.faissb_core.specs.Language.Command.{Nprobe, Nflip, MaxCodes, DirectMap}
+use Rattle.faissb_core.specs.Language.Command.{IndexQuestion, Search, Range, Reconstruct}
 use Rattle.faissb_core.specs.Language.Lines.{Line, TooLong, Silent, Whole, Broken, line_of}
-use Rattle.faissb_core.specs.Reply.Answer.{Answer, Done, Added, Found, reply_of}
-use Rattle.faissb_core.specs.Machine.Checked.{Checked, demand◌else◌, ◌>>=◌, ◌>>◌}
-use Rattle.faissb_core.specs.Machine.State.{State, changed, leaves, code_of, codes_of}
-use Rattle.faissb_core.specs.Machine.New.{is_flat}
-use Rattle.faissb_core.specs.Machine.Queries.{k_limit, radius_limit}
-use Rattle.faissb_core.specs.Machine.Step.{step, step_with, line_outcome, command_outcome}
-use Rattle.faissb_core.specs.Machine.Legal.{IsLegalIndex, IsLegalState}
-use Rattle.faissb_core.specs.Machine.Marked.{scan_of, MarkedIsScan, AllMarkedAreScans}
-use Rattle.faissb_core.specs.Session.Followed.{state_of}
-use Rattle.faissb_core.proofs.SessionLemmas.LegalLemmas.{step_follows}
+use Rattle.faissb_core.specs.Reply.Answer.{Answer, Quiet, Done, Added, Held, Found, Code, reply_of}
+use Rattle.faissb_core.specs.Machine.Checked.{Checked, given◌else◌, demand◌else◌, ◌>>=◌, is_within}
+use Rattle.faissb_core.specs.Machine.State.{State, Outcome, Changed, code_of, codes_of}
+use Rattle.faissb_core.specs.Machine.New.{new_index}
+use Rattle.faissb_core.specs.Machine.Adding.{append, is_light}
+use Rattle.faissb_core.specs.Machine.Queries.{search, range, reconstruct, k_limit, radius_limit}
+use Rattle.faissb_core.specs.Machine.Step.{step, step_with, line_outcome, command_outcome, change, ask}
+use Rattle.faissb_core.specs.Machine.Legal.{IsLegalState}
+use Rattle.faissb_core.specs.Machine.Marked.{scan_of, question_scan, MarkedIsScan, AllMarkedAreScans}
+use Rattle.faissb_core.specs.Machine.Marked.{IsWithinBound, IsNotPartial, AllWithinBoundAreExact, best_scan, range_scan}
+use Rattle.faissb_core.proofs.SessionLemmas.CheckedLemmas.{given_value, bind_gives, demand_gives, given_gives}
+use Rattle.faissb_core.proofs.SessionLemmas.LegalLemmas.{held_legal, step_follows}
 
--- a mark on hits that are those of the scan
-found_is : (scan : Checked (List Hit)) (hits : List Hit) (lent : ℕ) (mark : Bool) → scan ≡ Ok hits
+-- ---- replies that are no hits
+
+abbrev IsNotFound : Answer → Type 0
+IsNotFound (Found hits lent mark) = ⊥
+IsNotFound answer = Unit {0}
+
+abbrev IsQuiet : Changed → Type 0
+IsQuiet done = IsNotFound done.answer
+
+append_quiet : (labels : List ℤ) (added : List (List ℕ)) (v : IndexValue) → IfOk (append labels added v) IsQuiet
+append_quiet labels added v =
+    demand_gives IsQuiet (is_trained v) Untrained _ (λ trained.
+    demand_gives IsQuiet (is_light (after_add v labels added)) Load _ (λ light. tt))
+
+change_quiet : (c : IndexChange) (v : IndexValue) → IfOk (change c v) IsQuiet
+change_quiet (Add words) v =
+    bind_gives IsQuiet (codes_of (code_size v) words) _ (λ added read.
+    demand_gives IsQuiet (not (needs_ids v)) Ids _ (λ plain.
+    append_quiet (labels_from (count_of v) (length added)) added v))
+change_quiet (AddIds pairs) v =
+    bind_gives IsQuiet (codes_of (code_size v) (map (λ (p : IdWord). p.word) pairs)) _ (λ added read.
+    demand_gives IsQuiet (takes_ids v) Ids _ (λ takes. append_quiet (map (λ (p : IdWord). p.id) pairs) added v))
+change_quiet (Centroids words) v =
+    bind_gives IsQuiet (codes_of (code_size v) words) _ (λ more read.
+    given_gives IsQuiet (ivf_in v) Kind _ (λ ivf is.
+    demand_gives IsQuiet (nat_le (length ivf.centroids + length more) ivf.nlist) Full _ (λ few.
+    demand_gives IsQuiet (is_light (after_centroids v more)) Load _ (λ light. tt))))
+change_quiet (Nprobe n) v =
+    given_gives IsQuiet (ivf_in v) Kind _ (λ ivf is.
+    demand_gives IsQuiet (is_within 1 (2 ^ 63 - 1) n) Value _ (λ test. tt))
+change_quiet (Nflip n) v =
+    given_gives IsQuiet (key_bits v) Kind _ (λ bits is. demand_gives IsQuiet (nat_le n bits) Value _ (λ test. tt))
+change_quiet (MaxCodes n) v =
+    given_gives IsQuiet (ivf_in v) Kind _ (λ ivf is.
+    demand_gives IsQuiet (nat_lt n (2 ^ 63)) Value _ (λ test. tt))
+change_quiet (DirectMap on) v =
+    given_gives IsQuiet (ivf_in v) Kind _ (λ ivf is.
+    demand_gives IsQuiet (not on || is_numbering (map (λ (row : ListRow). row.label) ivf.rows)) Sequential _
+    (λ test. tt))
+
+-- ---- each reply has P
+
+abbrev IsAnsweredBy : (Checked Answer → Type 0) → Outcome → Type 0
+IsAnsweredBy P o = P (Ok o.answer)
+
+-- a reply that is no hits has P
+abbrev SparesOthers : (Checked Answer → Type 0) → Type 0
+SparesOthers P = (answer : Answer) → IsNotFound answer → P (Ok answer)
+
+command_answered : (P : Checked Answer → Type 0) (s : State) (files : Files) (command : Command) → SparesOthers P
+    → ((question : IndexQuestion) (v : IndexValue) → command ≡ Ask question → s.index ≡ Some v
+    → IfOk (ask question v) (λ a. P (Ok a)))
+    → IfOk (command_outcome command s files) (IsAnsweredBy P)
+command_answered P s files (New bits text) spares asked =
+    bind_gives (IsAnsweredBy P) (new_index bits text) _ (λ v is. spares Done tt)
+command_answered P s files (Change c) spares asked =
+    given_gives (IsAnsweredBy P) s.index NoIndex _ (λ v holds.
+    bind_gives (IsAnsweredBy P) (change c v) _ (λ done is.
+    spares done.answer (given_value IsQuiet (change c v) done (change_quiet c v) is)))
+command_answered P s files (Ask question) spares asked =
+    given_gives (IsAnsweredBy P) s.index NoIndex _ (λ v holds.
+    bind_gives (IsAnsweredBy P) (ask question v) _ (λ answer is.
+    given_value (λ a. P (Ok a)) (ask question v) answer (asked question v refl holds) is))
+
+line_answered : (P : Checked Answer → Type 0) (s : State) (files : Files) (line : Line) → SparesOthers P
+    → ((question : IndexQuestion) (v : IndexValue) → line ≡ Whole (Ask question) → s.index ≡ Some v
+    → IfOk (ask question v) (λ a. P (Ok a)))
+    → IfOk (line_outcome line s files) (IsAnsweredBy P)
+line_answered P s files TooLong spares asked = tt
+line_answered P s files Silent spares asked = spares Quiet tt
+line_answered P s files (Whole command) spares asked =
+    command_answered P s files command spares (λ question v is holds. asked question v (ap Whole is) holds)
+line_answered P s files Broken spares asked = tt
+
+step_answered : (P : Checked Answer → Type 0) (s : State) (files : Files) (c : Checked Outcome)
+    → ((refusal : Refusal) → P (Err refusal)) → IfOk c (IsAnsweredBy P) → P (step_with s files c).reply
+step_answered P s files (Ok o) refused answered = answered
+step_answered P s files (Err e) refused answered = refused e
+
+-- ---- marked answers
+
+spares_marked : (scan : Checked (List Hit)) → SparesOthers (MarkedIsScan scan)
+spares_marked scan Quiet is = tt
+spares_marked scan Done is = tt
+spares_marked scan (Added m n) is = tt
+spares_marked scan (Held m n) is = tt
+spares_marked scan (Found hits lent mark) is = absurd is
+spares_marked scan (Code code) is = tt
+
+found_is : (scan : Checked (List Hit)) (hits : List Hit) (lent : ℕ) (mark : Bool) → (mark ≡ true → scan ≡ Ok hits)
     → MarkedIsScan scan (Ok (Found hits lent mark))
-found_is scan hits lent true is = is
+found_is scan hits lent true is = is refl
 found_is scan hits lent false is = tt
 
-query_is : (scan : Checked (List Hit)) (s : State) (files : Files) (good : Bool) (hits : List Hit) (lent : ℕ)
-    (mark : Bool)
-    → scan ≡ Ok hits
-    → MarkedIsScan scan (step_with s files
-    (((demand good else Value) >> Ok (Found hits lent mark)) >>= (λ a. leaves s a files))).reply
-query_is scan s files true hits lent mark is = found_is scan hits lent mark is
-query_is scan s files false hits lent mark is = tt
+search_is : (k : ℕ) (word : Word) (v : IndexValue) → IsLegal v
+    → IfOk (search k word v) (λ a. MarkedIsScan (best_scan k word v) (Ok a))
+search_is k word v legal =
+    let P : Answer → Type 0 = λ a. MarkedIsScan (best_scan k word v) (Ok a) in
+    bind_gives P (code_of (code_size v) word) _ (λ q read.
+    demand_gives P (is_within 1 k_limit k) Value _ (λ few.
+    demand_gives P (is_trained v) Untrained _ (λ trained.
+    found_is (best_scan k word v) (best v q k) (looked v q) (search_mark v q k) (λ mark.
+    ap (λ (c : Checked (List ℕ)). c >>= (λ q. Ok (scan_best v q k))) read
+    ∙ ap Ok (sym (marked_best v q k legal mark))))))
 
-new_is : (scan : Checked (List Hit)) (s : State) (files : Files) (v : IndexValue) (dim flat : Bool)
-    → MarkedIsScan scan (step_with s files
-    (((demand dim else Dim) >> ((demand flat else (Factory Unknown)) >> Ok v)) >>=
-    (λ v. leaves (record s { index = Some v }) Done files))).reply
-new_is scan s files v false flat = tt
-new_is scan s files v true false = tt
-new_is scan s files v true true = tt
+range_is : (radius : ℕ) (word : Word) (v : IndexValue) → IsLegal v
+    → IfOk (range radius word v) (λ a. MarkedIsScan (range_scan radius word v) (Ok a))
+range_is radius word v legal =
+    let P : Answer → Type 0 = λ a. MarkedIsScan (range_scan radius word v) (Ok a) in
+    bind_gives P (code_of (code_size v) word) _ (λ q read.
+    demand_gives P (nat_le radius radius_limit) Value _ (λ few.
+    demand_gives P (is_trained v) Untrained _ (λ trained.
+    found_is (range_scan radius word v) (within v q radius) (looked v q) (range_mark v q radius) (λ mark.
+    ap (λ (c : Checked (List ℕ)). c >>= (λ q. Ok (scan_within v q radius))) read
+    ∙ ap Ok (sym (marked_within v q radius legal mark))))))
 
-added_is : (scan : Checked (List Hit)) (s : State) (files : Files) (v : IndexValue) (m n : ℕ) (light : Bool)
-    → MarkedIsScan scan (step_with s files
-    (((demand light else Load) >> changed v (Added m n)) >>=
-    (λ d. leaves (record s { index = Some d.index }) d.answer files))).reply
-added_is scan s files v m n true = tt
-added_is scan s files v m n false = tt
+-- the code of a label is no hit
+reconstructs : (P : Checked Answer → Type 0) (label : ℕ) (v : IndexValue) → SparesOthers P
+    → IfOk (reconstruct label v) (λ a. P (Ok a))
+reconstructs P label v spares =
+    given_gives (λ a. P (Ok a)) (finds_labels v) Kind _ (λ finds is.
+    demand_gives (λ a. P (Ok a)) (nat_lt label (count_of v)) Value _ (λ low.
+    demand_gives (λ a. P (Ok a)) finds NoDirect _ (λ found. spares (Code (code_labelled v label)) tt)))
 
-abbrev holding : CodeList → State
-holding v = record { index = Some (Bare (Flat v)) }
+question_is : (question : IndexQuestion) (v : IndexValue) → IsLegal v
+    → IfOk (ask question v) (λ a. MarkedIsScan (question_scan question v) (Ok a))
+question_is (Search k word) v legal = search_is k word v legal
+question_is (Range radius word) v legal = range_is radius word v legal
+question_is (Reconstruct label) v legal =
+    reconstructs (MarkedIsScan (question_scan (Reconstruct label) v)) label v
+    (spares_marked (question_scan (Reconstruct label) v))
 
-add_is : (scan : Checked (List Hit)) (v : CodeList) (files : Files) (read : Checked (List (List ℕ)))
-    → MarkedIsScan scan (step_with (holding v) files
-    ((read >>= (λ added. let w = after_add (Bare (Flat v)) (labels_from (length v.codes) (length added)) added in
-    (demand (nat_le (load_of w) load_limit) else Load) >> changed w (Added (length added) (count_of w)))) >>=
-    (λ d. leaves (record { index = Some d.index }) d.answer files))).reply
-add_is scan v files (Err e) = tt
-add_is scan v files (Ok added) =
-    let w = after_add (Bare (Flat v)) (labels_from (length v.codes) (length added)) added in
-    added_is scan (holding v) files w (length added) (count_of w) (nat_le (load_of w) load_limit)
+refused_marked : (scan : Checked (List Hit)) (refusal : Refusal) → MarkedIsScan scan (Err refusal)
+refused_marked scan refusal = tt
 
-search_is : (v : CodeList) (files : Files) (k : ℕ) (read : Checked (List ℕ))
-    → MarkedIsScan (read >>= (λ q. Ok (scan_best (Bare (Flat v)) q k))) (step_with (holding v) files
-    ((read >>= (λ q. (demand (nat_le 1 k && nat_le k k_limit) else Value) >> Ok
-    (Found (best (Bare (Flat v)) q k) (looked (Bare (Flat v)) q) (search_mark (Bare (Flat v)) q k)))) >>=
-    (λ a. leaves (holding v) a files))).reply
-search_is v files k (Err e) = tt
-search_is v files k (Ok q) = query_is _ (holding v) files (nat_le 1 k && nat_le k k_limit) (best (Bare (Flat v)) q k)
-    (looked (Bare (Flat v)) q) (search_mark (Bare (Flat v)) q k) (ap Ok (scan_best_flat v q k))
+-- what a question is answered by a full scan, in a state that holds this index
+scan_is : (line : Line) (s : State) (question : IndexQuestion) (v : IndexValue) → line ≡ Whole (Ask question)
+    → s.index ≡ Some v → scan_of line s ≡ question_scan question v
+scan_is line s question v is holds =
+    ap (λ l. scan_of l s) is
+    ∙ ap (λ (o : Option IndexValue). (given o else NoIndex) >>= (λ v. question_scan question v)) holds
 
-range_is : (v : CodeList) (files : Files) (radius : ℕ) (read : Checked (List ℕ))
-    → MarkedIsScan (read >>= (λ q. Ok (scan_within (Bare (Flat v)) q radius))) (step_with (holding v) files
-    ((read >>= (λ q. (demand (nat_le radius radius_limit) else Value) >> Ok
-    (Found (within (Bare (Flat v)) q radius) (looked (Bare (Flat v)) q) (range_mark (Bare (Flat v)) q radius))))
-    >>= (λ a. leaves (holding v) a files))).reply
-range_is v files radius (Err e) = tt
-range_is v files radius (Ok q) = query_is _ (holding v) files (nat_le radius radius_limit)
-    (within (Bare (Flat v)) q radius) (looked (Bare (Flat v)) q) (range_mark (Bare (Flat v)) q radius)
-    (ap Ok (scan_within_flat v q radius))
+line_is : (s : State) (files : Files) (line : Line) → IsLegalState s
+    → MarkedIsScan (scan_of line s) (step_with s files (line_outcome line s files)).reply
+line_is s files line legal =
+    step_answered (MarkedIsScan (scan_of line s)) s files (line_outcome line s files)
+    (refused_marked (scan_of line s))
+    (line_answered (MarkedIsScan (scan_of line s)) s files line (spares_marked (scan_of line s))
+    (λ question v is holds. subst (λ scan. IfOk (ask question v) (λ a. MarkedIsScan scan (Ok a)))
+    (sym (scan_is line s question v is holds)) (question_is question v (held_legal s v legal holds))))
 
-line_is : (index : Option CodeList) (files : Files) (line : Line)
-    → MarkedIsScan (scan_of line (state_of index))
-    (step_with (state_of index) files (line_outcome line (state_of index) files)).reply
-line_is index files TooLong = tt
-line_is index files Silent = tt
-line_is index files Broken = tt
-line_is index files (Whole (New bits text)) = new_is _ (state_of index) files (Bare (Flat (empty_flat bits)))
-    (is_dim bits) (is_flat text)
-line_is None files (Whole (Change c)) = tt
-line_is None files (Whole (Ask question)) = tt
-line_is (Some v) files (Whole (Change (Add words))) = add_is _ v files (codes_of (v.dim / 8) words)
-line_is (Some v) files (Whole (Ask (Search k word))) = search_is v files k (code_of (v.dim / 8) word)
-line_is (Some v) files (Whole (Ask (Range radius word))) = range_is v files radius (code_of (v.dim / 8) word)
-
--- a state that commands lead to is that of a Flat index, if there is one
-flat_of : (index : Option IndexValue) → IsLegalIndex index
-    → (flat : Option CodeList) × (state_of flat ≡ record { index = index })
-flat_of None legal = (None, refl)
-flat_of (Some (Bare (Flat v))) legal = (Some v, refl)
-flat_of (Some (Bare (Ivf v))) legal = absurd legal.1
-flat_of (Some (Bare (Hash v))) legal = absurd legal.1
-flat_of (Some (Bare (Multi v))) legal = absurd legal.1
-flat_of (Some (IdMap name v ids)) legal = absurd legal.1
-
-pub flat_step_is : (index : Option CodeList) (files : Files) (line : List ℕ)
-    → MarkedIsScan (scan_of (line_of line) (state_of index)) (step (state_of index) files line).reply
-unfolding step
-flat_step_is index files line = line_is index files (line_of line)
-
-step_is : (s : State) (files : Files) (line : List ℕ) → IsLegalState s
+pub step_is : (s : State) (files : Files) (line : List ℕ) → IsLegalState s
     → MarkedIsScan (scan_of (line_of line) s) (step s files line).reply
-step_is s files line legal =
-    let at = flat_of s.index legal.index in
-    subst (λ s. MarkedIsScan (scan_of (line_of line) s) (step s files line).reply) at.1 (flat_step_is at.0 files line)
+unfolding step
+step_is s files line legal = line_is s files (line_of line) legal
 
--- each answer to some lines
+-- ---- range searches within the bound of a MultiHash
+
+spares_partial : SparesOthers IsNotPartial
+spares_partial Quiet is = tt
+spares_partial Done is = tt
+spares_partial (Added m n) is = tt
+spares_partial (Held m n) is = tt
+spares_partial (Found hits lent mark) is = absurd is
+spares_partial (Code code) is = tt
+
+or_true : (a b : Bool) → b ≡ true → (a || b) ≡ true
+or_true true b is = refl
+or_true false b is = is
+
+same_multi : (v w : MultiValue) → Some v ≡ Some w → v ≡ w
+same_multi v w is = cc
+
+bound_is : (v : IndexValue) (multi : MultiValue) → multi_in v ≡ Some multi → bound_of v ≡ multi.nhash * (multi.nflip + 1)
+bound_is (Bare (Flat v)) multi is = absurd cc
+bound_is (Bare (Ivf v)) multi is = absurd cc
+bound_is (Bare (Hash v)) multi is = absurd cc
+bound_is (Bare (Multi v)) multi is = ap (λ (m : MultiValue). m.nhash * (m.nflip + 1)) (same_multi v multi is)
+bound_is (IdMap name (Flat v) ids) multi is = absurd cc
+bound_is (IdMap name (Ivf v) ids) multi is = absurd cc
+bound_is (IdMap name (Hash v) ids) multi is = absurd cc
+bound_is (IdMap name (Multi v) ids) multi is = ap (λ (m : MultiValue). m.nhash * (m.nflip + 1)) (same_multi v multi is)
+
+range_exact : (radius : ℕ) (word : Word) (v : IndexValue) (multi : MultiValue) → multi_in v ≡ Some multi
+    → radius ≤ multi.nhash * (multi.nflip + 1) → IfOk (range radius word v) (λ a. IsNotPartial (Ok a))
+range_exact radius word v multi is within_bound =
+    let P : Answer → Type 0 = λ a. IsNotPartial (Ok a) in
+    bind_gives P (code_of (code_size v) word) _ (λ q read.
+    demand_gives P (nat_le radius radius_limit) Value _ (λ few.
+    demand_gives P (is_trained v) Untrained _ (λ trained.
+    or_true (probes_all v q) (nat_le radius (bound_of v))
+    (le-leb radius (bound_of v) (subst (λ (n : ℕ). radius ≤ n) (sym (bound_is v multi is)) within_bound)))))
+
+same_index : (s : State) (v w : IndexValue) → s.index ≡ Some v → s.index ≡ Some w → v ≡ w
+same_index s v w is also = cc
+
+bound_question : (s : State) (question : IndexQuestion) (v : IndexValue) → s.index ≡ Some v
+    → IsWithinBound (Whole (Ask question)) s → IfOk (ask question v) (λ a. IsNotPartial (Ok a))
+bound_question s (Search k word) v holds bound = absurd bound
+bound_question s (Range radius word) v holds bound =
+    range_exact radius word v bound.1 (ap multi_in (same_index s v bound.0 holds bound.2) ∙ bound.3) bound.4
+bound_question s (Reconstruct label) v holds bound = absurd bound
+
+refused_exact : (refusal : Refusal) → IsNotPartial (Err refusal)
+refused_exact refusal = tt
+
+bound_line : (s : State) (files : Files) (line : Line) → IsWithinBound line s
+    → IsNotPartial (step_with s files (line_outcome line s files)).reply
+bound_line s files line bound =
+    step_answered IsNotPartial s files (line_outcome line s files) refused_exact
+    (line_answered IsNotPartial s files line spares_partial
+    (λ question v is holds. bound_question s question v holds (subst (λ l. IsWithinBound l s) is bound)))
+
+pub step_exact : (s : State) (files : Files) (line : List ℕ) → IsWithinBound (line_of line) s
+    → IsNotPartial (step s files line).reply
+unfolding step
+step_exact s files line bound = bound_line s files (line_of line) bound
+
+-- ---- each answer to some lines
+
 pub lines_are : (s : State) (files : Files) (lines : List (List ℕ)) → IsLegalState s → AllMarkedAreScans s files lines
 lines_are s files [] legal = tt
 lines_are s files (line ∷ more) legal = (
@@ -130,10 +261,20 @@ lines_are s files (line ∷ more) legal = (
   lines_are (step s files line).state (step s files line).files more (step_follows s files line legal).legal,
 )
 
--- what the session answers
-pub reply_is : (index : Option CodeList) (s : State) (files : Files) (line : List ℕ) (reply : Reply)
-    → state_of index ≡ s → reply_of reply ≡ (step s files line).reply
-    → MarkedIsScan (scan_of (line_of line) s) (reply_of reply)
-reply_is index s files line reply is replied =
-    subst (λ r. MarkedIsScan (scan_of (line_of line) s) r) (sym replied)
-    (subst (λ s. MarkedIsScan (scan_of (line_of line) s) (step s files line).reply) is (flat_step_is index files line))
+pub lines_exact : (s : State) (files : Files) (lines : List (List ℕ)) → AllWithinBoundAreExact s files lines
+lines_exact s files [] = tt
+lines_exact s files (line ∷ more) = (
+  step_exact s files line,
+  lines_exact (step s files line).state (step s files line).files more,
+)
+
+-- ---- what the session answers
+
+pub reply_is : (s : State) (files : Files) (line : List ℕ) (reply : Reply) → IsLegalState s
+    → reply_of reply ≡ (step s files line).reply → MarkedIsScan (scan_of (line_of line) s) (reply_of reply)
+reply_is s files line reply legal replied =
+    subst (λ r. MarkedIsScan (scan_of (line_of line) s) r) (sym replied) (step_is s files line legal)
+
+pub reply_exact : (s : State) (files : Files) (line : List ℕ) (reply : Reply) → reply_of reply ≡ (step s files line).reply
+    → IsWithinBound (line_of line) s → IsNotPartial (reply_of reply)
+reply_exact s files line reply replied bound = subst IsNotPartial (sym replied) (step_exact s files line bound)

@@ -1,5 +1,5 @@
 -- What a line does, from what its command did.
-use Rattle.std.proofs.Common.{◌≡◌, ℕ, Option, Some, None, Ok, Err, Result, Bool, List, IsTrue, is_err, false, true}
+use Rattle.std.proofs.Common.{◌≡◌, ℕ, Option, Some, None, Ok, Err, Result, Bool, List, IsTrue, is_err, false}
 use Rattle.std.proofs.Common.{refl, sym, ap, ◌∙◌, subst}
 use Rattle.std.specs.Result.{OnErr}
 use Rattle.bcodes.specs.Value.{IndexValue}
@@ -15,9 +15,9 @@ use Rattle.faissb_core.specs.Language.Lines.{Line, line_of}
 use Rattle.faissb_core.specs.Reply.Answer.{Answer, Done, reply_of}
 use Rattle.faissb_core.specs.Machine.Checked.{Checked, ◌>>=◌}
 use Rattle.faissb_core.specs.Machine.New.{new_index}
-use Rattle.faissb_core.specs.Machine.State.{State, Outcome, Changed, leaves}
+use Rattle.faissb_core.specs.Machine.State.{State, Outcome, Changed, changed, leaves}
 use Rattle.faissb_core.specs.Machine.Step.{step, step_with, line_outcome, command_outcome, change, ask}
-use Rattle.faissb_core.specs.Session.Results.{Refuses, Answers, IsChange, Changes, IsOutcome, Leaves, settled}
+use Rattle.faissb_core.specs.Session.Results.{Refuses, Answers, IsChange, Changes, Leaves, settled}
 use Rattle.faissb_core.specs.Session.Followed.{FollowsStep}
 
 pub fits_files : (files : Files) (contents : Option Contents) (looks : Bool) → Fits files contents looks
@@ -68,6 +68,15 @@ answer_leaves question v files (Ok reply) is = record {
 answer_leaves question v files (Err (Refused r)) is = ap
     (λ (m : Checked Answer). m >>= (λ a. leaves (holding v) a files)) is
 answer_leaves question v files (Err Memory) is = tt
+
+-- what a change came to
+pub changes_to : (checked : Checked Changed) (new after : IndexValue) (answer : Answer) (reply : Reply)
+    → checked ≡ changed after answer → new ≡ after → reply_of reply ≡ Ok answer → IsChange checked new reply
+changes_to checked new after answer reply passes is replies = record {
+  answer = answer;
+  passed = passes ∙ ap (λ (w : IndexValue). changed w answer) (sym is);
+  reply_is = replies;
+}
 
 -- ---- the line
 

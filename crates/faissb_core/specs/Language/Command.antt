@@ -1,15 +1,22 @@
 -- The commands of a script.
-use Rattle.std.specs.Prelude.{ℕ, List}
-use Rattle.faissb_core.specs.Language.Words.{Word}
+use Rattle.std.specs.Prelude.{ℕ, Bool, List}
+use Rattle.faissb_core.specs.Language.Words.{Word, IdWord}
 
 -- the commands that change the index
 pub data IndexChange : Type 0 where
   Add : List Word → IndexChange
+  AddIds : List IdWord → IndexChange
+  Centroids : List Word → IndexChange
+  Nprobe : ℕ → IndexChange
+  Nflip : ℕ → IndexChange
+  MaxCodes : ℕ → IndexChange
+  DirectMap : Bool → IndexChange
 
 -- those that ask it something
 pub data IndexQuestion : Type 0 where
   Search : ℕ → Word → IndexQuestion
   Range : ℕ → Word → IndexQuestion
+  Reconstruct : ℕ → IndexQuestion
 
 pub data Command : Type 0 where
   New : ℕ → Word → Command

@@ -1,9 +1,10 @@
 -- The names of commands, and the words that follow them.
-use Rattle.std.specs.Prelude.{List, [], ◌∷◌, ◌++◌, map, if◌then◌else◌, codes, Option, None, Some}
+use Rattle.std.specs.Prelude.{ℕ, List, [], ◌∷◌, ◌++◌, map, if◌then◌else◌, codes, Option, None, Some, unwrap_or}
 use Rattle.std.specs.Option.{option_map, option_and_then}
 use Rattle.std.specs.Str.{bytes_eq}
-use Rattle.faissb_core.specs.Language.Words.{Word, word, number}
-use Rattle.faissb_core.specs.Language.Command.{IndexChange, Add, IndexQuestion, Search, Range}
+use Rattle.faissb_core.specs.Language.Words.{Word, IdWord, words_of, word, number, id_and_word, switch}
+use Rattle.faissb_core.specs.Language.Command.{IndexChange, Add, AddIds, Centroids, Nprobe, Nflip, MaxCodes, DirectMap}
+use Rattle.faissb_core.specs.Language.Command.{IndexQuestion, Search, Range, Reconstruct}
 use Rattle.faissb_core.specs.Language.Command.{Command, New, Change, Ask}
 
 -- ---- forms: what the words after a name must be, and the command that they make
@@ -16,6 +17,11 @@ abbrev pub alone : {C : Type 0} → C → Form C
 alone command [] = Some command
 alone command (w ∷ words) = None
 
+-- one word
+abbrev pub one : {A C : Type 0} → (Word → Option A) → (A → C) → Form C
+one reads command (w ∷ []) = option_map command (reads w)
+one reads command _ = None
+
 -- two words
 abbrev pub two : {A B C : Type 0} → (Word → Option A) → (Word → Option B) → (A → B → C) → Form C
 two reads_first reads_second command (v ∷ w ∷ []) =
@@ -26,6 +32,10 @@ two reads_first reads_second command _ = None
 abbrev pub each_word : {A : Type 0} → (Word → Option A) → List Word → Option (List A)
 each_word reads [] = Some []
 each_word reads (w ∷ words) = option_and_then (λ a. option_map (λ more. a ∷ more) (each_word reads words)) (reads w)
+
+-- the ids and words of a text
+abbrev pub pairs_in : List ℕ → List IdWord
+pairs_in text = unwrap_or (each_word id_and_word (words_of text)) []
 
 -- one word or more, each of which writes the same sort of thing
 abbrev pub one_or_more : {A C : Type 0} → (Word → Option A) → (List A → C) → Form C
@@ -44,13 +54,22 @@ name means form = record { name = name; form = form }
 
 -- commands that change the index
 abbrev pub changes : List (Entry IndexChange)
-changes = (codes "add" means one_or_more word Add) ∷ []
+changes =
+    (codes "add" means one_or_more word Add)
+    ∷ (codes "addids" means one_or_more id_and_word AddIds)
+    ∷ (codes "centroids" means one_or_more word Centroids)
+    ∷ (codes "nprobe" means one number Nprobe)
+    ∷ (codes "nflip" means one number Nflip)
+    ∷ (codes "maxcodes" means one number MaxCodes)
+    ∷ (codes "directmap" means one switch DirectMap)
+    ∷ []
 
 -- commands that ask the index
 abbrev pub questions : List (Entry IndexQuestion)
 questions =
     (codes "search" means two number word Search)
     ∷ (codes "range" means two number word Range)
+    ∷ (codes "reconstruct" means one number Reconstruct)
     ∷ []
 
 -- commands that exchange the index

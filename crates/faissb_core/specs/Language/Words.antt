@@ -1,8 +1,10 @@
 -- The words of a line, and what a word may write.
-use Rattle.std.specs.Prelude.{ℕ, ◌==◌, ◌&&◌, ◌||◌, Bool, false, nat_le, nat_lt, if◌then◌else◌}
-use Rattle.std.specs.Prelude.{List, [], ◌∷◌, length, codes, Option, None, Some}
+use Rattle.std.specs.Prelude.{ℕ, zero, suc, ◌+◌, ◌^◌, ℤ, pos, negsuc, ◌==◌, ◌&&◌, ◌||◌, not, Bool, true, false}
+use Rattle.std.specs.Prelude.{nat_le, nat_lt, if◌then◌else◌, List, [], ◌∷◌, length, take_while, drop, codes}
+use Rattle.std.specs.Prelude.{Option, None, Some}
 use Rattle.std.specs.Char.{is_ascii_digit, is_ascii_graphic}
 use Rattle.std.specs.List.{list_all, slice_split}
+use Rattle.std.specs.Option.{option_map, option_and_then}
 use Rattle.std.specs.Str.{bytes_eq}
 use Rattle.std.specs.Str.Parse.{digits_value}
 
@@ -30,3 +32,33 @@ is_positive_number (b ∷ digits) = nat_lt 48 b && list_all is_ascii_digit (b �
 -- a number: 0, or one without a leading 0
 abbrev pub number : Word → Option ℕ
 number w = if bytes_eq w (codes "0") || is_positive_number w then Some (digits_value 10 w) else None
+
+-- an id: a number, or one but 0 behind a `-`, of 64 bits with its sign
+abbrev pub positive_id : ℕ → Option ℤ
+positive_id n = if nat_lt n (2 ^ 63) then Some (pos n) else None
+
+abbrev pub negative_id : ℕ → Option ℤ
+negative_id zero = None
+negative_id (suc n) = if nat_lt n (2 ^ 63) then Some (negsuc n) else None
+
+abbrev pub id : Word → Option ℤ
+id [] = None
+id (b ∷ bytes) =
+    if b == 45 then option_and_then negative_id (number bytes) else option_and_then positive_id (number (b ∷ bytes))
+
+-- an id, and the word of a code
+pub record IdWord : Type 0 where
+  pub id : ℤ
+  pub word : Word
+
+abbrev pub id_before : Word → Option ℤ → Option IdWord
+id_before [] i = None
+id_before (b ∷ bytes) i = option_map (λ i. record { id = i; word = b ∷ bytes }) i
+
+-- an id and a word that is not empty, with the first `:` between them
+abbrev pub id_and_word : Word → Option IdWord
+id_and_word w = let front = take_while (λ b. not (b == 58)) w in id_before (drop (length front + 1) w) (id front)
+
+-- `on` or `off`
+abbrev pub switch : Word → Option Bool
+switch w = if bytes_eq w (codes "on") then Some true else if bytes_eq w (codes "off") then Some false else None

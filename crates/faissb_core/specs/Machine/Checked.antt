@@ -27,6 +27,12 @@ abbrev pub given◌else◌ : {A : Type 0} → Option A → Refusal → Checked A
 given (Some x) else refusal = Ok x
 given None else refusal = Err refusal
 
+-- a value, or an error and the refusal that names it
+infix 5 accept◌else◌
+abbrev pub accept◌else◌ : {A E : Type 0} → Result A E → (E → Refusal) → Checked A
+accept (Ok x) else refusal = Ok x
+accept (Err e) else refusal = Err (refusal e)
+
 -- each of some values in turn
 abbrev pub each : {A B : Type 0} → (A → Checked B) → List A → Checked (List B)
 each f [] = Ok []

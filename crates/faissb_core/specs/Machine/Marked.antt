@@ -1,12 +1,13 @@
 -- What the mark `exact` promises.
-use Rattle.std.specs.Prelude.{◌≡◌, ℕ, List, [], ◌∷◌, true, Ok, Err}
+use Rattle.std.specs.Prelude.{◌≡◌, ◌≤◌, ◌+◌, ◌*◌, ℕ, List, [], ◌∷◌, true, Some, Ok, Err}
 use Rattle.bcodes.specs.declared.hit.Hit.{Hit}
-use Rattle.bcodes.specs.Value.{IndexValue, code_size}
+use Rattle.bcodes.specs.Value.{MultiValue, IndexValue, code_size}
+use Rattle.bcodes.specs.Settings.{multi_in}
 use Rattle.bcodes.specs.Answers.{scan_best, scan_within}
 use Rattle.outside.specs.Contents.{Files}
 use Rattle.faissb_core.specs.declared.reply.refusal.Refusal.TheVariants.{Line as NoQuery}
 use Rattle.faissb_core.specs.Language.Words.{Word}
-use Rattle.faissb_core.specs.Language.Command.{IndexQuestion, Search, Range, Ask}
+use Rattle.faissb_core.specs.Language.Command.{IndexQuestion, Search, Range, Reconstruct, Ask}
 use Rattle.faissb_core.specs.Language.Lines.{Line, Whole, line_of}
 use Rattle.faissb_core.specs.Reply.Answer.{Answer, Found}
 use Rattle.faissb_core.specs.Machine.Checked.{Checked, ◌>>=◌}
@@ -27,6 +28,7 @@ range_scan radius word v = do
 abbrev pub question_scan : IndexQuestion → IndexValue → Checked (List Hit)
 question_scan (Search k word) v = best_scan k word v
 question_scan (Range radius word) v = range_scan radius word v
+question_scan (Reconstruct label) v = Err NoQuery
 
 -- what a line is answered by a full scan, where it is a query
 abbrev pub scan_of : Line → State → Checked (List Hit)
@@ -40,9 +42,29 @@ abbrev pub MarkedIsScan : Checked (List Hit) → Checked Answer → Type 0
 MarkedIsScan scan (Ok (Found hits lent true)) = scan ≡ Ok hits
 MarkedIsScan scan reply = Unit {0}
 
--- so it is for each of some lines
-abbrev pub AllMarkedAreScans : State → Files → List (List ℕ) → Type 0
-AllMarkedAreScans s files [] = Unit {0}
-AllMarkedAreScans s files (line ∷ more) =
+-- what a line is answered has P, for each of some lines
+abbrev pub AllReplies : (List ℕ → State → Checked Answer → Type 0) → State → Files → List (List ℕ) → Type 0
+AllReplies P s files [] = Unit {0}
+AllReplies P s files (line ∷ more) =
     let done = step s files line in
-    MarkedIsScan (scan_of (line_of line) s) done.reply × AllMarkedAreScans done.state done.files more
+    P line s done.reply × AllReplies P done.state done.files more
+
+abbrev pub AllMarkedAreScans : State → Files → List (List ℕ) → Type 0
+AllMarkedAreScans s files lines = AllReplies (λ line s reply. MarkedIsScan (scan_of (line_of line) s) reply) s files lines
+
+-- a range search of a MultiHash, plain or under outer ids, whose radius is at most the number of maps times one more
+-- than the number of flips
+abbrev pub IsWithinBound : Line → State → Type 0
+IsWithinBound (Whole (Ask (Range radius word))) s =
+    (v : IndexValue) × (multi : MultiValue) × (s.index ≡ Some v) × (multi_in v ≡ Some multi)
+    × (radius ≤ multi.nhash * (multi.nflip + 1))
+IsWithinBound line s = ⊥
+
+-- hits, where there are some, are marked as exact
+abbrev pub IsNotPartial : Checked Answer → Type 0
+IsNotPartial (Ok (Found hits lent exact)) = exact ≡ true
+IsNotPartial reply = Unit {0}
+
+abbrev pub AllWithinBoundAreExact : State → Files → List (List ℕ) → Type 0
+AllWithinBoundAreExact s files lines =
+    AllReplies (λ line s reply. IsWithinBound (line_of line) s → IsNotPartial reply) s files lines

@@ -1,12 +1,13 @@
--- search and range.
-use Rattle.std.specs.Prelude.{ℕ, nat_le, Ok}
-use Rattle.bcodes.specs.Value.{IndexValue, code_size}
+-- search, range and reconstruct.
+use Rattle.std.specs.Prelude.{ℕ, nat_le, nat_lt, Ok}
+use Rattle.bcodes.specs.Value.{IndexValue, code_size, count_of, is_trained}
 use Rattle.bcodes.specs.Answers.{best, within, looked}
 use Rattle.bcodes.specs.Marks.{search_mark, range_mark}
-use Rattle.faissb_core.specs.declared.reply.refusal.Refusal.TheVariants.{Value}
+use Rattle.any_index.specs.Labels.{finds_labels, code_labelled}
+use Rattle.faissb_core.specs.declared.reply.refusal.Refusal.TheVariants.{Kind, Value, Untrained, NoDirect}
 use Rattle.faissb_core.specs.Language.Words.{Word}
-use Rattle.faissb_core.specs.Reply.Answer.{Answer, Found}
-use Rattle.faissb_core.specs.Machine.Checked.{Checked, demand◌else◌, ◌>>=◌, ◌>>◌, is_within}
+use Rattle.faissb_core.specs.Reply.Answer.{Answer, Found, Code}
+use Rattle.faissb_core.specs.Machine.Checked.{Checked, demand◌else◌, given◌else◌, ◌>>=◌, ◌>>◌, is_within}
 use Rattle.faissb_core.specs.Machine.State.{code_of}
 
 -- the most hits that a search may be asked for
@@ -21,10 +22,19 @@ abbrev pub search : ℕ → Word → IndexValue → Checked Answer
 search k word v = do
   q ← code_of (code_size v) word
   demand is_within 1 k_limit k else Value
+  demand is_trained v else Untrained
   Ok (Found (best v q k) (looked v q) (search_mark v q k))
 
 abbrev pub range : ℕ → Word → IndexValue → Checked Answer
 range radius word v = do
   q ← code_of (code_size v) word
   demand nat_le radius radius_limit else Value
+  demand is_trained v else Untrained
   Ok (Found (within v q radius) (looked v q) (range_mark v q radius))
+
+abbrev pub reconstruct : ℕ → IndexValue → Checked Answer
+reconstruct label v = do
+  finds ← given finds_labels v else Kind
+  demand nat_lt label (count_of v) else Value
+  demand finds else NoDirect
+  Ok (Code (code_labelled v label))

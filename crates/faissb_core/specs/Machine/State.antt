@@ -2,7 +2,7 @@
 use Rattle.std.specs.Prelude.{List, Option, None, Ok, ℕ}
 use Rattle.std.specs.Result.{result_ok}
 use Rattle.hex.specs.Hex.{decode_sized}
-use Rattle.bcodes.specs.Value.{IndexValue, code_size}
+use Rattle.bcodes.specs.Value.{IndexValue}
 use Rattle.outside.specs.Contents.{Files}
 use Rattle.faissb_core.specs.declared.reply.refusal.Refusal.TheVariants.{NoIndex, Code}
 use Rattle.faissb_core.specs.Language.Words.{Word}

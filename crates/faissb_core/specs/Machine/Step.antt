@@ -3,24 +3,33 @@ use Rattle.std.specs.Prelude.{ℕ, List, Some, Ok, Err}
 use Rattle.bcodes.specs.Value.{IndexValue}
 use Rattle.outside.specs.Contents.{Files}
 use Rattle.faissb_core.specs.declared.reply.refusal.Refusal.TheVariants.{Long, Line as NoCommand}
-use Rattle.faissb_core.specs.Language.Command.{IndexChange, Add, IndexQuestion, Search, Range}
+use Rattle.faissb_core.specs.Language.Command.{IndexChange, Add, AddIds, Centroids, Nprobe, Nflip, MaxCodes, DirectMap}
+use Rattle.faissb_core.specs.Language.Command.{IndexQuestion, Search, Range, Reconstruct}
 use Rattle.faissb_core.specs.Language.Command.{Command, New, Change, Ask}
 use Rattle.faissb_core.specs.Language.Lines.{Line, TooLong, Silent, Whole, Broken, line_of}
 use Rattle.faissb_core.specs.Reply.Answer.{Answer, Quiet, Done}
 use Rattle.faissb_core.specs.Machine.Checked.{Checked, ◌>>=◌}
 use Rattle.faissb_core.specs.Machine.State.{State, Outcome, leaves, Changed, index_of}
 use Rattle.faissb_core.specs.Machine.New.{new_index}
-use Rattle.faissb_core.specs.Machine.Adding.{add}
-use Rattle.faissb_core.specs.Machine.Queries.{search, range}
+use Rattle.faissb_core.specs.Machine.Adding.{add, add_ids, give_centroids}
+use Rattle.faissb_core.specs.Machine.Settings.{set_nprobe, set_nflip, set_max_codes, set_direct}
+use Rattle.faissb_core.specs.Machine.Queries.{search, range, reconstruct}
 
 -- what a change makes of the index
 abbrev pub change : IndexChange → IndexValue → Checked Changed
 change (Add words) v = add words v
+change (AddIds pairs) v = add_ids pairs v
+change (Centroids words) v = give_centroids words v
+change (Nprobe n) v = set_nprobe n v
+change (Nflip n) v = set_nflip n v
+change (MaxCodes n) v = set_max_codes n v
+change (DirectMap on) v = set_direct on v
 
 -- what the index answers
 abbrev pub ask : IndexQuestion → IndexValue → Checked Answer
 ask (Search k word) v = search k word v
 ask (Range radius word) v = range radius word v
+ask (Reconstruct label) v = reconstruct label v
 
 -- the state, the answer and the files after a command that is not refused
 abbrev pub command_outcome : Command → State → Files → Checked Outcome

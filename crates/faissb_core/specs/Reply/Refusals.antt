@@ -7,6 +7,10 @@ use Rattle.faissb_core.specs.declared.reply.refusal.Refusal.TheVariants as refus
 
 abbrev pub factory_word : FactoryWord → List ℕ
 factory_word word.Unknown = codes "unknown"
+factory_word word.Number = codes "number"
+factory_word word.LeftOut = codes "leftout"
+factory_word word.Nested = codes "nested"
+factory_word word.Misfit = codes "misfit"
 
 abbrev pub refusal_words : Refusal → List (List ℕ)
 refusal_words refusal.Long = codes "long" ∷ []
@@ -15,5 +19,11 @@ refusal_words refusal.NoIndex = codes "none" ∷ []
 refusal_words refusal.Dim = codes "dim" ∷ []
 refusal_words (refusal.Factory word) = codes "factory" ∷ factory_word word ∷ []
 refusal_words refusal.Code = codes "code" ∷ []
+refusal_words refusal.Ids = codes "ids" ∷ []
+refusal_words refusal.Kind = codes "kind" ∷ []
 refusal_words refusal.Value = codes "value" ∷ []
+refusal_words refusal.Full = codes "full" ∷ []
+refusal_words refusal.Untrained = codes "untrained" ∷ []
 refusal_words refusal.Load = codes "load" ∷ []
+refusal_words refusal.NoDirect = codes "nodirect" ∷ []
+refusal_words refusal.Sequential = codes "sequential" ∷ []

@@ -2,9 +2,10 @@
 use Rattle.std.specs.Prelude.{ℕ, List, [], ◌∷◌, ◌++◌, Bool, if◌then◌else◌, length, codes, Result, Ok, Err}
 use Rattle.std.specs.Fmt.{decimal, signed_decimal}
 use Rattle.std.specs.List.{flat_map, join_with_byte}
+use Rattle.hex.specs.Hex.{encode_lower}
 use Rattle.bcodes.specs.declared.hit.Hit.{Hit}
 use Rattle.faissb_core.specs.declared.reply.refusal.Refusal.{Refusal}
-use Rattle.faissb_core.specs.Reply.Answer.{Answer, Quiet, Done, Added, Found}
+use Rattle.faissb_core.specs.Reply.Answer.{Answer, Quiet, Done, Added, Held, Found, Code}
 use Rattle.faissb_core.specs.Reply.Refusals.{refusal_words}
 
 -- words with a space between each two, and a line feed
@@ -30,7 +31,9 @@ abbrev pub answer_text : Answer → List ℕ
 answer_text Quiet = []
 answer_text Done = codes "ok\n"
 answer_text (Added m n) = text_line (codes "added" ∷ decimal m ∷ codes "total" ∷ decimal n ∷ [])
+answer_text (Held m n) = text_line (codes "centroids" ∷ decimal m ∷ codes "of" ∷ decimal n ∷ [])
 answer_text (Found hits lent exact) = found_text hits lent exact
+answer_text (Code code) = text_line (codes "code" ∷ encode_lower code ∷ [])
 
 -- a line is answered or refused
 abbrev pub reply_text : Result Answer Refusal → List ℕ

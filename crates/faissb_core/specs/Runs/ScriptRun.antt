@@ -1,6 +1,6 @@
 -- What the run of a script leaves, by its status.
 use Rattle.std.specs.Prelude.{◌≡◌, ◌<◌, ◌≤◌, ◌+◌, ◌-◌, ◌^◌, ◌⊎◌, ◌||◌, ◌==◌, ℕ, List, [], Bool, true, false, IsTrue}
-use Rattle.std.specs.Prelude.{Option, length, take, count_by, slice_index_or}
+use Rattle.std.specs.Prelude.{length, take, count_by, slice_index_or}
 use Rattle.std.specs.List.{list_any}
 use Rattle.std.specs.Io.KnownBytes.{Appends, Consumes, IsAtEnd}
 use Rattle.outside.specs.Causes.{RisesBy}

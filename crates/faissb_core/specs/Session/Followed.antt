@@ -1,7 +1,6 @@
 -- What the session did with a line.
-use Rattle.std.specs.Prelude.{◌≡◌, Option, None, Some}
-use Rattle.std.specs.Option.{option_map}
-use Rattle.bcodes.specs.Value.{CodeList, Bare, Flat}
+use Rattle.std.specs.Prelude.{◌≡◌, Option}
+use Rattle.bcodes.specs.Value.{IndexValue}
 use Rattle.outside.specs.Contents.{Contents, HasFiles}
 use Rattle.faissb_core.specs.declared.reply.reply.Reply.{Reply}
 use Rattle.faissb_core.specs.Reply.Answer.{reply_of}
@@ -9,8 +8,8 @@ use Rattle.faissb_core.specs.Machine.State.{State}
 use Rattle.faissb_core.specs.Machine.Step.{Step}
 
 -- the state of a session that holds this index, if there is one
-abbrev pub state_of : Option CodeList → State
-state_of index = record { index = option_map (λ v. Bare (Flat v)) index }
+abbrev pub state_of : Option IndexValue → State
+state_of index = record { index = index }
 
 -- this step was done: the state and the files are those after it, and the reply is its reply
 pub record FollowsStep (done : Step) (new : State) (contents : Option Contents) (reply : Reply) : Type 0 where

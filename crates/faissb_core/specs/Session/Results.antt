@@ -2,6 +2,9 @@
 use Rattle.std.specs.Prelude.{◌≡◌, Result, Ok, Err}
 use Rattle.bcodes.specs.Value.{IndexValue}
 use Rattle.outside.specs.Contents.{Files}
+use Rattle.bcodes.specs.declared.direct_error.DirectError.{DirectError}
+use Rattle.bcodes.specs.declared.direct_error.DirectError.TheVariants as direct
+use Rattle.faissb_core.specs.declared.reply.refusal.Refusal.TheVariants.{Sequential}
 use Rattle.faissb_core.specs.declared.reply.reply.Reply.{Reply}
 use Rattle.faissb_core.specs.declared.reply.reply.Reply.TheVariants.{Refused as RefusedReply}
 use Rattle.faissb_core.specs.declared.session.stop.Stop.{Stop}
@@ -11,6 +14,11 @@ use Rattle.faissb_core.specs.declared.session.halt.Halt.TheVariants.{Refused, Me
 use Rattle.faissb_core.specs.Reply.Answer.{Answer, reply_of}
 use Rattle.faissb_core.specs.Machine.Checked.{Checked}
 use Rattle.faissb_core.specs.Machine.State.{State, Outcome, leaves, Changed, changed}
+
+-- why a direct map is not kept
+abbrev pub halt_of_direct : DirectError → Halt
+halt_of_direct direct.NotSequential = Refused Sequential
+halt_of_direct direct.Memory = Memory
 
 -- the checks refuse in this way, unless memory ran out
 abbrev pub Refuses : {A : Type 0} → Checked A → Halt → Type 0

@@ -15,8 +15,20 @@ pub enum Refusal {
     Factory(FactoryWord),
     /// A word is not the hexadecimal text of a code.
     Code,
+    /// Ids are needed, or they are not taken.
+    Ids,
+    /// The index is of another kind.
+    Kind,
     /// A number is out of its range.
     Value,
+    /// There would be more centroids than lists.
+    Full,
+    /// The index lacks centroids.
+    Untrained,
     /// The index would grow past the load limit.
     Load,
+    /// There is no direct map.
+    NoDirect,
+    /// The labels are not the numbers below their count, each once.
+    Sequential,
 }

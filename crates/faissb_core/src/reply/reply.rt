@@ -1,7 +1,7 @@
 ghost use Rattle.std.specs.Prelude.{◌≡◌, is_err};
 
 use crate::Refusal;
-use bcodes::Hits;
+use bcodes::{Codes, Hits};
 
 /// What a line is answered.
 #[derive(Debug, Drop)]
@@ -12,8 +12,12 @@ pub enum Reply {
     Done,
     /// How many codes were added, and how many there are then.
     Added(u64, u64),
+    /// How many centroids are held, and how many lists there are.
+    Held(u32, u32),
     /// The hits, how many codes were looked at, and whether the answer is marked as exact.
     Found(Hits, u64, bool),
+    /// One code.
+    Code(Codes),
     /// The command changed nothing.
     Refused(Refusal),
 }

@@ -1,10 +1,10 @@
 // The text of a reply.
-ghost use Rattle.std.specs.Prelude.{◌≡◌, ◌++◌, length, string_bytes};
+ghost use Rattle.std.specs.Prelude.{◌≡◌, ◌++◌, [], length, slice_index_or, string_bytes};
 ghost use Rattle.std.specs.Prelude.{Ok, Err, IfOk, IsErrOf, IsOk, OnOk};
 ghost use Rattle.std.specs.List.{flat_map};
 ghost use Rattle.std.specs.Io.KnownBytes.{Appends};
 ghost use Rattle.outside.specs.Causes.{HasCause};
-ghost use Rattle.faissb_core.specs.Reply.Answer.{Added, Found, Quiet, reply_of};
+ghost use Rattle.faissb_core.specs.Reply.Answer.{Added, Code, Held, Quiet, reply_of};
 ghost use Rattle.faissb_core.specs.Reply.Sent.{AppendsFront, SendsPieces};
 ghost use Rattle.faissb_core.specs.Reply.Text.{answer_text, count_text, found_text};
 ghost use Rattle.faissb_core.specs.Reply.Text.{hit_text, mark_word, reply_text};
@@ -15,7 +15,7 @@ use super::refusal::Refusal;
 use super::reply::Reply;
 use super::send::send_piece;
 use crate::PIECE;
-use bcodes::Hit;
+use bcodes::{Codes, Hit};
 use itoa::{Buffer, Integer};
 use outside::{Sink, Trouble};
 use std::alloc::{AllocError, Global};
@@ -29,9 +29,19 @@ fn refused_line(refusal: Refusal) -> &'static str
         Refusal::NoIndex => "refused none\n",
         Refusal::Dim => "refused dim\n",
         Refusal::Factory(FactoryWord::Unknown) => "refused factory unknown\n",
+        Refusal::Factory(FactoryWord::Number) => "refused factory number\n",
+        Refusal::Factory(FactoryWord::LeftOut) => "refused factory leftout\n",
+        Refusal::Factory(FactoryWord::Nested) => "refused factory nested\n",
+        Refusal::Factory(FactoryWord::Misfit) => "refused factory misfit\n",
         Refusal::Code => "refused code\n",
+        Refusal::Ids => "refused ids\n",
+        Refusal::Kind => "refused kind\n",
         Refusal::Value => "refused value\n",
+        Refusal::Full => "refused full\n",
+        Refusal::Untrained => "refused untrained\n",
         Refusal::Load => "refused load\n",
+        Refusal::NoDirect => "refused nodirect\n",
+        Refusal::Sequential => "refused sequential\n",
     }
 }
 
@@ -39,6 +49,13 @@ fn added_line(alloc: Global, added: u64, total: u64) -> Result<String, AllocErro
     ensures { IfOk result (λ line. string_bytes line ≡ answer_text (Added added total)) }
 {
     let line = format!(in alloc; "added {added} total {total}\n")?;
+    Ok(line)
+}
+
+fn held_line(alloc: Global, held: u32, lists: u32) -> Result<String, AllocError>
+    ensures { IfOk result (λ line. string_bytes line ≡ answer_text (Held held lists)) }
+{
+    let line = format!(in alloc; "centroids {held} of {lists}\n")?;
     Ok(line)
 }
 
@@ -122,6 +139,41 @@ fn send_found<K: Sink>(
     Ok(())
 }
 
+fn first_code(codes: &Codes) -> &[u8]
+    ensures { result.now ≡ slice_index_or codes.now.codes 0 [] }
+{
+    if codes.is_empty() { &[] } else { codes.get(0) }
+}
+
+// The line of a code, in hexadecimal.
+fn code_line(alloc: Global, code: &[u8]) -> Result<Vec<u8>, AllocError>
+    ensures { IfOk result (λ line. line.items ≡ answer_text (Code code.now)) }
+{
+    let digits = hex::encode(alloc, code)?;
+    let mut line = Vec::with_capacity(alloc, digits.len() + 6)?;
+    line.extend_from_slice(b"code ")?;
+    line.extend_from_slice(digits.as_bytes())?;
+    line.push(b'\n')?;
+    Ok(line)
+}
+
+fn send_code<K: Sink>(alloc: Global, code: &[u8], out: &mut K) -> Result<(), Trouble>
+    ensures ok { OnOk result (Appends (K.written out.old) (K.written out.new)
+        (answer_text (Code code.now))) }
+    ensures front { AppendsFront (K.written out.old) (K.written out.new)
+        (answer_text (Code code.now)) }
+    ensures cause { HasCause (K.faults out.old) (K.faults out.new)
+        (IsErrOf result Trouble.Failed) }
+    ensures faultless { OnOk result (K.faults out.new ≡ K.faults out.old) }
+    ensures memory_is_no_fault { IsErrOf result Trouble.Memory
+        → K.faults out.new ≡ K.faults out.old }
+{
+    let mut line = code_line(alloc, code)?;
+    send_pieces(&mut line, out)?;
+    send_piece(out, &line)?;
+    Ok(())
+}
+
 /// Writes the text of a reply, each line of it with a line feed. A `Silent` reply has no text: the
 /// sink is not called, and no memory is taken.
 ///
@@ -155,7 +207,12 @@ pub fn write_reply<K: Sink>(alloc: Global, reply: &Reply, out: &mut K) -> Result
             let line = added_line(alloc, *added, *total)?;
             send_piece(out, line.as_bytes())?;
         }
+        Reply::Held(held, lists) => {
+            let line = held_line(alloc, *held, *lists)?;
+            send_piece(out, line.as_bytes())?;
+        }
         Reply::Found(hits, lent, exact) => send_found(alloc, hits.as_slice(), *lent, *exact, out)?,
+        Reply::Code(codes) => send_code(alloc, first_code(codes), out)?,
         Reply::Refused(refusal) => send_piece(out, refused_line(*refusal).as_bytes())?,
     }
     Ok(())

@@ -9,10 +9,11 @@ ghost use Rattle.faissb_core.specs.Language.Lines.{lines};
 ghost use Rattle.faissb_core.specs.Machine.State.{start};
 ghost use Rattle.faissb_core.specs.Machine.Script.{script_text, script_files, script_refuses};
 ghost use Rattle.faissb_core.specs.Machine.Marked.{AllMarkedAreScans};
+ghost use Rattle.faissb_core.specs.Machine.Marked.{AllWithinBoundAreExact};
 ghost use Rattle.faissb_core.specs.Runs.Limits.{script_limit, read_limit};
 ghost use Rattle.faissb_core.specs.Runs.Words.{run_of, Script};
 ghost use Rattle.faissb_core.specs.Runs.Statuses.{IsCutShort, status_for};
-ghost use Rattle.faissb_core.specs.Runs.Progress.{beside, last_loads};
+ghost use Rattle.faissb_core.specs.Runs.Progress.{beside, last_loads, nothing_held};
 ghost use Rattle.faissb_core.specs.Runs.InputEnd.{IsEndStatus, EndLeaves};
 ghost use Rattle.faissb_core.specs.Runs.ScriptRun.{IsScriptRun, IsPast, loads};
 
@@ -30,12 +31,12 @@ const READ_LIMIT: usize = 65_536;
 // The input has ended.
 fn end_run<K: Sink, H: Shelf>(
     alloc: Global,
-    mut running: Running,
+    running: &mut Running,
     out: &mut K,
     shelf: &mut H,
 ) -> Status
-    ensures end { (files : Files) → Fits files (H.contents shelf.old) (last_loads running)
-        → EndLeaves result (beside running files)
+    ensures end { (files : Files) → Fits files (H.contents shelf.old) (last_loads running.old)
+        → EndLeaves result (beside running.old files)
         (record { written = K.written out.old; contents = H.contents shelf.old })
         (record { written = K.written out.new; contents = H.contents shelf.new }) }
     ensures kind { IsEndStatus result }
@@ -55,12 +56,14 @@ fn end_run<K: Sink, H: Shelf>(
 // Applies every line that the taken bytes hold whole before it reads again.
 fn run_lines<S: Source, K: Sink, H: Shelf>(
     alloc: Global,
+    running: &mut Running,
     buf: &mut [u8],
     script: &mut S,
     out: &mut K,
     shelf: &mut H,
 ) -> Status
-    requires { length buf.old ≡ read_limit }
+    requires first { running.old ≡ nothing_held }
+    requires room { length buf.old ≡ read_limit }
     ensures run { IsScriptRun result
         (record { left = S.left script.old; taken = S.taken script.old })
         (record { left = S.left script.new; taken = S.taken script.new })
@@ -74,7 +77,6 @@ fn run_lines<S: Source, K: Sink, H: Shelf>(
     ensures shelf { CountsFailure (H.faults shelf.old) (H.faults shelf.new)
         (result ≡ Status.ShelfFault) }
 {
-    let mut running = Running::new(alloc);
     let mut count = 0;
     while count <= SCRIPT_LIMIT {
         let len = match script.read(buf) {
@@ -112,7 +114,10 @@ fn run_script<S: Source, K: Sink, H: Shelf>(
         (result ≡ Status.ShelfFault) }
 {
     match vec![in alloc; 0u8; READ_LIMIT] {
-        Ok(mut buf) => run_lines(alloc, &mut buf, script, out, shelf),
+        Ok(mut buf) => {
+            let mut running = Running::new(alloc);
+            run_lines(alloc, &mut running, &mut buf, script, out, shelf)
+        }
         Err(_) => Status::Memory,
     }
 }
@@ -180,6 +185,10 @@ pub fn run<S: Source, K: Sink, H: Shelf>(
     // Each answer of the machine that is marked as exact is that of a full scan.
     ensures marked { (bytes : List ℕ) (files : Files)
         → AllMarkedAreScans start files (lines bytes) }
+
+    // Each range search of a MultiHash up to its bound is marked as exact by the machine.
+    ensures within_bound { (bytes : List ℕ) (files : Files)
+        → AllWithinBoundAreExact start files (lines bytes) }
 
     // Where the objects tell and nothing fails, it is the plain machine. A shelf need not tell
     // where no line reads a file.

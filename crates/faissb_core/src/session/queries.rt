@@ -3,14 +3,17 @@ ghost use Rattle.std.specs.Prelude.{◌≡◌, ◌≤◌, length, IfOk, IsTrue, 
 ghost use Rattle.bcodes.specs.Value.{code_size, is_trained};
 ghost use Rattle.bcodes.specs.Answers.{best, within, looked};
 ghost use Rattle.bcodes.specs.Marks.{range_mark, search_mark};
-ghost use Rattle.faissb_core.specs.Machine.Queries.{range, search};
+ghost use Rattle.any_index.specs.Labels.{finds_labels};
+ghost use Rattle.faissb_core.specs.Machine.Queries.{range, reconstruct, search};
 ghost use Rattle.faissb_core.specs.Reply.Answer.{Found, reply_of};
 ghost use Rattle.faissb_core.specs.Session.Results.{Answers};
 
 use super::halt::Halt;
 use super::read_codes::read_code;
 use crate::{K_LIMIT, RADIUS_LIMIT, Refusal, Reply};
+use any_index::AnyIndex;
 use bcodes::{BinaryIndex, Meter, Plain, Want, range_exact, search_exact};
+use factory_text::{Kind, Prefix, Spec};
 use std::alloc::Global;
 
 // A search under a meter of its own, with its count and its mark.
@@ -74,12 +77,14 @@ pub fn search<I: BinaryIndex<Led = Plain>>(
     k: u64,
     word: &[u8],
 ) -> Result<Reply, Halt>
-    requires is_trained { IsTrue (is_trained (I.value index.now)) }
     ensures { Answers (search k word.now (I.value index.now)) result }
 {
     let query = read_code(alloc, index.dim(), word)?;
     if k < 1 || k > K_LIMIT {
         return Err(Refusal::Value.into());
+    }
+    if !index.trained() {
+        return Err(Refusal::Untrained.into());
     }
     let reply = nearest(alloc, index, &query, k as u32)?;
     Ok(reply)
@@ -92,13 +97,50 @@ pub fn range<I: BinaryIndex<Led = Plain>>(
     radius: u64,
     word: &[u8],
 ) -> Result<Reply, Halt>
-    requires is_trained { IsTrue (is_trained (I.value index.now)) }
     ensures { Answers (range radius word.now (I.value index.now)) result }
 {
     let centre = read_code(alloc, index.dim(), word)?;
     if radius > RADIUS_LIMIT {
         return Err(Refusal::Value.into());
     }
+    if !index.trained() {
+        return Err(Refusal::Untrained.into());
+    }
     let reply = nearer(alloc, index, &centre, radius as u32)?;
     Ok(reply)
+}
+
+// Whether the code of a label is found, where the index is of a kind that may find it.
+fn finds_labels(index: &AnyIndex) -> Option<bool>
+    ensures { result ≡ finds_labels index.now }
+{
+    match index.spec() {
+        Spec {
+            prefix: Prefix::Plain,
+            kind: Kind::Flat,
+        } => Some(true),
+        // An IVF takes ids exactly where it keeps no direct map.
+        Spec {
+            prefix: Prefix::Plain,
+            kind: Kind::Ivf(_),
+        } => Some(!index.takes_ids()),
+        _ => None,
+    }
+}
+
+/// The command `reconstruct`.
+pub fn reconstruct(alloc: Global, index: &AnyIndex, label: u64) -> Result<Reply, Halt>
+    ensures { Answers (reconstruct label index.now) result }
+{
+    let Some(finds) = finds_labels(index) else {
+        return Err(Refusal::Kind.into());
+    };
+    if label >= index.count() {
+        return Err(Refusal::Value.into());
+    }
+    if !finds {
+        return Err(Refusal::NoDirect.into());
+    }
+    let codes = index.reconstruct(alloc, label, &mut Meter::new(Plain))?;
+    Ok(Reply::Code(codes))
 }

@@ -1,15 +1,16 @@
 // Codes from hexadecimal words.
-ghost use Rattle.std.specs.Prelude.{◌≡◌, ◌*◌, ◌/◌, length, unwrap_or};
-ghost use Rattle.std.specs.Prelude.{Ok, Err, IfOk, MatchBool, MatchResult};
+ghost use Rattle.std.specs.Prelude.{◌≡◌, ◌*◌, ◌/◌, ◌∷◌, ◌++◌, [], length, map, unwrap_or};
+ghost use Rattle.std.specs.Prelude.{Ok, Err, IfOk, MatchBool, MatchResult, OnOk};
 ghost use Rattle.hex.specs.Hex.{hex_digit_value};
 ghost use Rattle.faissb_core.specs.Language.Words.{words_of};
+ghost use Rattle.faissb_core.specs.Language.Grammar.{pairs_in};
 ghost use Rattle.faissb_core.specs.Machine.State.{code_of, codes_of};
 ghost use Rattle.faissb_core.specs.Session.Results.{Gives};
 
 use super::halt::Halt;
 use crate::Refusal;
-use crate::language::first_word;
-use bcodes::{Codes, Dim};
+use crate::language::{IdWords, first_word};
+use bcodes::{Codes, Dim, Want};
 use std::alloc::Global;
 
 // The value of a hexadecimal digit of either case, and 255 for another byte.
@@ -81,4 +82,33 @@ pub fn read_codes(alloc: Global, dim: Dim, words: &[u8]) -> Result<Codes, Halt>
         rest = more;
     }
     Ok(codes)
+}
+
+fn push_id(ids: &mut Vec<i64>, id: i64) -> Result<(), Want>
+    ensures { OnOk result (ids.new.items ≡ ids.old.items ++ id ∷ []) }
+{
+    ids.push(id)?;
+    Ok(())
+}
+
+/// The codes that some words write, and the id of each.
+pub fn read_pairs(alloc: Global, dim: Dim, words: IdWords<'_>) -> Result<(Vec<i64>, Codes), Halt>
+    ensures codes { let size = dim.bits / 8 in
+        Gives (λ p. p.1.codes) (codes_of size (map (λ p. p.word) (pairs_in words.entry.text.now)))
+        result }
+    ensures ids { IfOk result (λ p. p.0.items ≡ map (λ p. p.id) (pairs_in words.entry.text.now)) }
+    ensures dim { IfOk result (λ p. p.1.dim ≡ dim.bits) }
+{
+    let mut ids = Vec::new(alloc);
+    let mut codes = Codes::new(alloc, dim);
+    let mut code = vec![in alloc; 0u8; dim.bytes()]?;
+    let mut rest = Some(words);
+    while let Some(pairs) = rest {
+        let (id, word, more) = pairs.first();
+        decode_word(word, &mut code)?;
+        push_id(&mut ids, id)?;
+        codes.push(&code)?;
+        rest = more;
+    }
+    Ok((ids, codes))
 }

@@ -2,22 +2,23 @@ ghost use Rattle.std.specs.Prelude.{◌≡◌, ◌⊎◌, ◌||◌, false, IsTru
 ghost use Rattle.std.specs.Prelude.{IfErr, IfOk, IsErrOf, OnErr, OnOk};
 ghost use Rattle.outside.specs.Causes.{HasCause};
 ghost use Rattle.outside.specs.Contents.{Files, HasFiles, Fits};
-ghost use Rattle.bcodes.specs.Value.{Bare, Flat as FlatForm};
 ghost use Rattle.faissb_core.specs.Language.Read.{said, said_change, said_question, line_said};
+ghost use Rattle.faissb_core.specs.Machine.Legal.{IsLegalIndex};
 ghost use Rattle.faissb_core.specs.Machine.Step.{ask as answer_of, change as change_of};
 ghost use Rattle.faissb_core.specs.Machine.Step.{command_outcome, line_outcome};
 ghost use Rattle.faissb_core.specs.Session.Results.{Answers, Changes, Leaves, settled};
 ghost use Rattle.faissb_core.specs.Session.Results.{MemoryOnlyIf};
 
-use super::adding::add;
+use super::adding::{add, add_ids, give_centroids};
 use super::halt::Halt;
 use super::new::new_index;
-use super::queries::{range, search};
+use super::queries::{range, reconstruct, search};
+use super::settings::{set_direct, set_max_codes, set_nflip, set_nprobe};
 use super::stop::Stop;
 use crate::language::{Command, IndexChange, IndexQuestion, Line, read_line};
 use crate::{Refusal, Reply};
-use bcodes::Plain;
-use flat_index::Flat;
+use any_index::AnyIndex;
+use bcodes::BinaryIndex;
 use outside::Shelf;
 use std::alloc::Global;
 use std::marker::Model;
@@ -25,7 +26,7 @@ use std::marker::Model;
 /// The index that the commands of a script work on, if there is one.
 #[derive(Drop)]
 pub struct Session {
-    index: Option<Flat<Plain>>,
+    index: Option<AnyIndex>,
 }
 
 impl Model for Session {
@@ -38,24 +39,38 @@ impl Model for Session {
 }
 
 // What a change makes of the index.
-fn change(alloc: Global, index: &mut Flat<Plain>, change: IndexChange<'_>) -> Result<Reply, Halt>
-    ensures ok { Changes (change_of (said_change change.entry) (Bare (FlatForm index.old)))
-        (Bare (FlatForm index.new)) result }
+fn change(alloc: Global, index: &mut AnyIndex, change: IndexChange<'_>) -> Result<Reply, Halt>
+    ensures ok { Changes (change_of (said_change change.entry) index.old) index.new result }
     ensures err { OnErr result (index.new ≡ index.old) }
 {
     match change {
         IndexChange::Add(words) => add(alloc, index, words),
+        IndexChange::AddIds(words) => add_ids(alloc, index, words),
+        IndexChange::Centroids(words) => give_centroids(alloc, index, words),
+        IndexChange::Nprobe(n) => set_nprobe(index, n),
+        IndexChange::Nflip(n) => set_nflip(index, n),
+        IndexChange::MaxCodes(n) => set_max_codes(index, n),
+        IndexChange::DirectMap(on) => set_direct(index, on),
     }
 }
 
 // What the index answers.
-fn ask(alloc: Global, index: &Flat<Plain>, question: IndexQuestion<'_>) -> Result<Reply, Halt>
-    ensures { let asked = said_question question.entry in
-        Answers (answer_of asked (Bare (FlatForm index.now))) result }
+fn ask(alloc: Global, index: &AnyIndex, question: IndexQuestion<'_>) -> Result<Reply, Halt>
+    ensures { Answers (answer_of (said_question question.entry) index.now) result }
 {
     match question {
         IndexQuestion::Search(k, word) => search(alloc, index, k, word),
         IndexQuestion::Range(radius, word) => range(alloc, index, radius, word),
+        IndexQuestion::Reconstruct(label) => reconstruct(alloc, index, label),
+    }
+}
+
+// What the index holds is legal: the fact for proofs.
+fn know_legal(index: &Option<AnyIndex>)
+    ensures { IsLegalIndex index.now }
+{
+    if let Some(index) = index {
+        let _dim = index.dim();
     }
 }
 
@@ -78,6 +93,7 @@ impl Session {
     ghost use Rattle.faissb_core.specs.Machine.State.{start};
     ghost use Rattle.faissb_core.specs.Machine.Step.{step};
     ghost use Rattle.faissb_core.specs.Machine.Marked.{scan_of, MarkedIsScan};
+    ghost use Rattle.faissb_core.specs.Machine.Marked.{IsNotPartial, IsWithinBound};
     ghost use Rattle.faissb_core.specs.Session.Followed.{FollowsStep};
 
     /// A session without an index. Takes no memory.
@@ -152,6 +168,10 @@ impl Session {
         ensures marked { IfOk result (λ reply.
             MarkedIsScan (scan_of (line_of line.now) self.old) (reply_of reply)) }
 
+        // A range search of a MultiHash up to its bound is marked as exact.
+        ensures within_bound { IsWithinBound (line_of line.now) self.old
+            → IfOk result (λ reply. IsNotPartial (reply_of reply)) }
+
         // A `Stop` leaves the session as it was. Lines that are no command take no memory.
         ensures err { OnErr result (self.new ≡ self.old) }
         ensures memory_for_commands { IsErrOf result Stop.Memory → IsTrue (is_command line.now) }
@@ -173,8 +193,7 @@ impl Session {
         ensures memory_is_no_fault { IsErrOf result Stop.Memory
             → H.faults shelf.new ≡ H.faults shelf.old }
     {
-        // Opened, so that the state is known to be that of a Flat index.
-        let _ = &self.index;
+        know_legal(&self.index);
         let reply = settle(self.obey(alloc, read_line(line)))?;
         Ok(reply)
     }

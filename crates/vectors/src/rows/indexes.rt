@@ -30,7 +30,7 @@ pub static ROWS: [Row; 5] = [
             ("new 16 BFlatt", "refused factory unknown"),
             ("new 16 BFla", "refused factory unknown"),
             ("new 16 bflat", "refused factory unknown"),
-            ("new 16 BHNSW32", "refused factory unknown"),
+            ("new 16 BHNSW32", "refused factory leftout"),
             ("new 12 BFlatt", "refused dim"),
         ],
         status: Status::Refused,

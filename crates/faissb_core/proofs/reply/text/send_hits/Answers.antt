@@ -1,4 +1,4 @@
-use Rattle.std.proofs.Common.{rules, arith, ◌∙◌, ◌+◌}
+use Rattle.std.proofs.Common.{rules, arith, ◌+◌}
 use Rattle.bcodes.specs.Hits.{no_hit}
 use Rattle.faissb_core.proofs.ReplyLemmas.PieceLemmas.{front_then, sends_then, sends_so_far, hits-more, hits-front}
 use Rattle.faissb_core.proofs.reply.text.send_hits.Goals as goal

@@ -31,7 +31,7 @@ returns-in-Err-feed-clause-run g c =
 
 pub loop-count-init : goal.loop-count-init
 loop-count-init g c = record {
-  far = SoFar-start _ _ _ c.new-running.ensures;
+  far = SoFar-start _ _ _ c.requires.first;
   few = search rules;
   script_same = search rules;
   out_same = search rules;

@@ -1,6 +1,6 @@
 use Rattle.std.proofs.Common.{rules, refl, sym, ◌∙◌}
 use Rattle.std.proofs.lemmas.List.{append-nil}
-use Rattle.faissb_core.proofs.RunLemmas.Feeding.{Come-start, Come-more, Come-end, fits-line, feeds_line_fails}
+use Rattle.faissb_core.proofs.RunLemmas.Feeding.{Come-more, Come-end, fits-line, feeds_line_fails}
 use Rattle.faissb_core.proofs.RunLemmas.Feeding.{feeds_not_held}
 use Rattle.faissb_core.proofs.runs.running.Running.feed.Goals as goal
 
