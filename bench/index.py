@@ -1,19 +1,23 @@
 #!/usr/bin/env python3
-"""Times the program on a Flat index of random codes: adding them, searches, and range searches.
+"""Times the program on an index of random codes: adding them, searches, and range searches.
 
-    python3 bench/flat.py                                  # 100,000 codes of 256 bits
-    python3 bench/flat.py --codes 1000000 --bits 512 --k 1000
-    python3 bench/flat.py --script > searches.faissb       # only writes the script with the searches
+    python3 bench/index.py                                 # 100,000 codes of 256 bits in a BFlat
+    python3 bench/index.py --codes 1000000 --bits 512 --k 1000
+    python3 bench/index.py --index BHash16x16 --set "nflip 1" --radius 32
+    python3 bench/index.py --index BIVF1024 --set "nprobe 16"
+    python3 bench/index.py --script > searches.faissb      # only writes the script with the searches
 
 The program is proved and built first, if that has not been done. Each script runs a few times, and the
 least time counts. Times are processor times of whole runs, with the reading of the script; the time of the
 queries is what a script with queries takes longer than one without. Every run with the same options does
-the same work.
+the same work. A query is one of the codes with up to 31 of its bits flipped, so that indexes by keys have
+something to find. The centroids of a BIVF are random codes.
 """
 
 import argparse
 import os
 import random
+import re
 import subprocess
 import sys
 import tempfile
@@ -30,16 +34,18 @@ def main():
         return
     program = options.program or built_program()
     radius = options.radius if options.radius is not None else near_radius(options.bits)
-    print(f"{options.codes:,} codes of {options.bits:,} bits, {options.queries:,} queries")
+    print(f"{options.codes:,} codes of {options.bits:,} bits in a {options.index}, {options.queries:,} queries")
     adding, memory = measure(program, options, lines_of(options, None, 0))
     show("add", adding, options.codes, "code", memory)
     for name, number in [("search", options.k), ("range", radius)]:
         taken, memory = measure(program, options, lines_of(options, name, number))
-        show(f"{name} {number}", taken - adding, options.codes * options.queries, "code and query", memory)
+        show(f"{name} {number}", taken - adding, options.queries, "query", memory)
 
 
 def read_options():
     parser = argparse.ArgumentParser(description=__doc__, formatter_class=argparse.RawDescriptionHelpFormatter)
+    parser.add_argument("--index", default="BFlat", help="a factory text")
+    parser.add_argument("--set", action="append", default=[], help='a setting, as "nflip 1"; may be given again')
     parser.add_argument("--codes", type=int, default=100_000)
     parser.add_argument("--bits", type=int, default=256)
     parser.add_argument("--queries", type=int, default=200)
@@ -69,13 +75,37 @@ def lines_of(options, query, number):
     def code():
         return f"{numbers.getrandbits(options.bits):0{digits}x}"
 
-    yield f"new {options.bits} BFlat"
-    on_a_line = (LINE - 3) // (digits + 1)
-    for at in range(0, options.codes, on_a_line):
-        yield " ".join(["add", *(code() for _ in range(min(on_a_line, options.codes - at)))])
+    def near(word):
+        places = numbers.sample(range(options.bits), numbers.randrange(min(32, options.bits)))
+        return f"{int(word, 16) ^ sum(1 << place for place in places):0{digits}x}"
+
+    yield f"new {options.bits} {options.index}"
+    lists = re.search(r"BIVF(\d+)$", options.index)
+    if lists:
+        yield from long_lines("centroids", [code() for _ in range(int(lists[1]))])
+    yield from options.set
+    codes = [code() for _ in range(options.codes)]
+    if options.index.startswith("IDMap"):
+        yield from long_lines("addids", [f"{at}:{word}" for at, word in enumerate(codes)])
+    else:
+        yield from long_lines("add", codes)
     if query:
         for _ in range(options.queries):
-            yield f"{query} {number} {code()}"
+            yield f"{query} {number} {near(numbers.choice(codes))}"
+
+
+def long_lines(name, words):
+    """A command with many words, on as many lines as it takes."""
+    line = [name]
+    size = len(name)
+    for word in words:
+        if size + 1 + len(word) > LINE:
+            yield " ".join(line)
+            line = [name]
+            size = len(name)
+        line.append(word)
+        size += 1 + len(word)
+    yield " ".join(line)
 
 
 def measure(program, options, lines):
@@ -111,7 +141,7 @@ def memory_of(program, script):
 
 
 def show(name, taken, count, unit, memory):
-    print(f"  {name:<16} {taken:>9.3f} s {taken / count * 1e9:>9.1f} ns a {unit:<15} {memory / 1e6:>9.1f} MB")
+    print(f"  {name:<16} {taken:>9.3f} s {taken / count * 1e6:>11.3f} µs a {unit:<6} {memory / 1e6:>9.1f} MB")
 
 
 if __name__ == "__main__":
