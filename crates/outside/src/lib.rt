@@ -4,10 +4,13 @@
 
 mod failed;
 mod failures;
+mod folder_shelf;
 mod input_source;
+mod mem_shelf;
 mod mem_sink;
 mod mem_source;
 mod output_sink;
+mod remaining;
 mod shelf;
 mod sink;
 mod source;
@@ -17,7 +20,9 @@ mod sure_source;
 mod trouble;
 
 pub use failed::Failed;
+pub use folder_shelf::FolderShelf;
 pub use input_source::InputSource;
+pub use mem_shelf::MemShelf;
 pub use mem_sink::MemSink;
 pub use mem_source::MemSource;
 pub use output_sink::OutputSink;

@@ -1,8 +1,11 @@
 use crate::{
-    Failed, InputSource, MemSink, MemSource, OutputSink, Sink, Source, SureShelf, SureSink,
-    SureSource, Trouble,
+    Failed, FolderShelf, InputSource, MemShelf, MemSink, MemSource, OutputSink, Shelf, Sink,
+    Source, SureShelf, SureSink, SureSource, Trouble,
 };
+use std::alloc::{AllocError, Global};
+use std::fs;
 use std::io::{self, ErrorKind, Read, Write};
+use std::rt::Files;
 use std::test::Fail;
 
 /// A reader that gives at most two bytes at once, and whose second read fails.
@@ -82,6 +85,30 @@ fn read_from<S: Source>(source: &mut S, buf: &mut [u8]) -> Result<usize, Failed>
 
 fn write_to<S: Sink>(sink: &mut S, piece: &[u8]) -> Result<usize, Trouble> {
     sink.write(piece)
+}
+
+// Makes a file of two pieces.
+fn save<S: Shelf>(shelf: &mut S, name: &str, first: &[u8], last: &[u8]) -> Result<(), Trouble> {
+    shelf.create(name)?;
+    shelf.append(first)?;
+    shelf.append(last)?;
+    shelf.keep()
+}
+
+// Begins to make a file.
+fn begin<S: Shelf>(shelf: &mut S, name: &str, piece: &[u8]) -> Result<(), Trouble> {
+    shelf.create(name)?;
+    shelf.append(piece)
+}
+
+type Loaded = Result<Option<usize>, Trouble>;
+
+// What one read gives of a file, or `None` where there is no such file.
+fn load<S: Shelf>(shelf: &mut S, name: &str, buf: &mut [u8]) -> Loaded {
+    if !shelf.open(name)? {
+        return Ok(None);
+    }
+    Ok(Some(shelf.read(buf)?))
 }
 
 #[test]
@@ -186,7 +213,103 @@ fn never_fails(rt: HostRuntime) -> Result<(), Fail> {
     let mut sink = SureSink::new(rt.alloc());
     assert_eq!(rt; write_to(&mut sink, b"hello"), Ok(5));
     assert_eq!(rt; sink.as_slice(), b"hello".as_slice());
-    let _shelf = SureShelf::new(rt.alloc());
+    Ok(())
+}
+
+// Whether the file of this name has these bytes.
+fn holds(shelf: &SureShelf, name: &str, bytes: &[u8]) -> bool {
+    match shelf.get(name) {
+        Some(found) => found == bytes,
+        None => false,
+    }
+}
+
+#[test]
+fn keeps_files_in_memory(rt: HostRuntime) -> Result<(), Fail> {
+    let mut buf = [0; 4];
+    let mut shelf = SureShelf::new(rt.alloc());
+    shelf.put("a", b"old")?;
+    assert_eq!(rt; load(&mut shelf, "b", &mut buf), Ok(None));
+    assert_eq!(rt; save(&mut shelf, "b", b"hel", b"lo"), Ok(()));
+    assert!(rt; holds(&shelf, "a", b"old") && holds(&shelf, "b", b"hello"));
+    assert_eq!(rt; load(&mut shelf, "b", &mut buf), Ok(Some(4)));
+    assert_eq!(rt; buf, *b"hell");
+    Ok(())
+}
+
+// Whether a save that fails at this call leaves the old file, and the next save replaces it.
+fn survives(alloc: Global, call: u64) -> Result<bool, AllocError> {
+    let mut shelf = MemShelf::new(alloc);
+    shelf.put("f", b"old")?;
+    shelf.fail_at(call)?;
+    let is_failed = save(&mut shelf, "f", b"hel", b"lo") == Err(Trouble::Failed);
+    let is_old = matches!(shelf.get("f"), Some(b"old"));
+    let is_saved = save(&mut shelf, "f", b"hel", b"lo") == Ok(());
+    Ok(is_failed && is_old && is_saved && matches!(shelf.get("f"), Some(b"hello")))
+}
+
+#[test]
+fn fails_at_each_call_of_a_save(rt: HostRuntime) -> Result<(), Fail> {
+    for call in 0..4 {
+        assert!(rt; survives(rt.alloc(), call)?, "call {call}");
+    }
+    Ok(())
+}
+
+// What a load that fails at this call answers, and what the next one does.
+fn load_twice(alloc: Global, call: u64) -> Result<[Loaded; 2], AllocError> {
+    let mut buf = [0; 4];
+    let mut shelf = MemShelf::new(alloc);
+    shelf.put("f", b"old")?;
+    shelf.fail_at(call)?;
+    let first = load(&mut shelf, "f", &mut buf);
+    Ok([first, load(&mut shelf, "f", &mut buf)])
+}
+
+#[test]
+fn fails_at_each_call_of_a_load(rt: HostRuntime) -> Result<(), Fail> {
+    for call in 0..2 {
+        let answers = load_twice(rt.alloc(), call)?;
+        assert_eq!(rt; answers, [Err(Trouble::Failed), Ok(Some(3))]);
+    }
+    Ok(())
+}
+
+fn save_here<R: Files>(rt: &R, alloc: Global, name: &str) -> Result<(), Trouble> {
+    save(&mut FolderShelf::new(rt, alloc), name, b"hel", b"lo")
+}
+
+fn begin_here<R: Files>(rt: &R, alloc: Global, name: &str) -> Result<(), Trouble> {
+    begin(&mut FolderShelf::new(rt, alloc), name, b"half a ")
+}
+
+fn load_here<R: Files>(rt: &R, alloc: Global, name: &str, buf: &mut [u8]) -> Loaded {
+    load(&mut FolderShelf::new(rt, alloc), name, buf)
+}
+
+#[test]
+fn keeps_files_in_the_folder(rt: HostRuntime) -> Result<(), Fail> {
+    let mut buf = [0; 8];
+    assert_eq!(rt; load_here(&rt, rt.alloc(), "kept", &mut buf), Ok(None));
+    fs::write(&rt, "kept", "old")?;
+
+    // The old file stays until the new one is kept.
+    assert_eq!(rt; begin_here(&rt, rt.alloc(), "kept"), Ok(()));
+    assert_eq!(rt; load_here(&rt, rt.alloc(), "kept", &mut buf), Ok(Some(3)));
+    assert_eq!(rt; save_here(&rt, rt.alloc(), "kept"), Ok(()));
+    assert_eq!(rt; load_here(&rt, rt.alloc(), "kept", &mut buf), Ok(Some(5)));
+    assert_eq!(rt; buf, *b"hello\0\0\0");
+    fs::remove_file(&rt, "kept")?;
+
+    // A folder is no file, and no name leads elsewhere.
+    fs::create_dir(&rt, "taken")?;
+    let failed = Err(Trouble::Failed);
+    assert_eq!(rt; load_here(&rt, rt.alloc(), "taken", &mut buf), failed);
+    for name in ["taken", "taken/kept", "..", ""] {
+        assert_eq!(rt; save_here(&rt, rt.alloc(), name), Err(Trouble::Failed));
+    }
+    fs::remove_dir(&rt, "taken")?;
+    fs::remove_file(&rt, ".faissb-part")?;
     Ok(())
 }
 

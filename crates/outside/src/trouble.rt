@@ -1,7 +1,7 @@
 ghost use Rattle.std.specs.Prelude.{◌≡◌};
 ghost use Rattle.outside.specs.declared.trouble.Trouble.TheVariants.{Memory};
 
-use std::alloc::AllocError;
+use std::alloc::{AllocError, AllocFailed};
 use thiserror::Error;
 
 /// Why a call of a sink or a shelf failed.
@@ -19,6 +19,14 @@ impl From<AllocError> for Trouble {
     ghost from_gives = { λ _ trouble. trouble ≡ Memory };
 
     fn from(_: AllocError) -> Trouble {
+        Trouble::Memory
+    }
+}
+
+impl<T: Drop> From<AllocFailed<T>> for Trouble {
+    ghost from_gives = { λ _ trouble. trouble ≡ Memory };
+
+    fn from(_: AllocFailed<T>) -> Trouble {
         Trouble::Memory
     }
 }
