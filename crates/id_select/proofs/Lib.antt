@@ -1,0 +1,4 @@
+pub mod FlagLemmas
+pub mod HalvingLemmas
+pub mod LegalLemmas
+pub mod RemovedLemmas
