@@ -7,6 +7,7 @@ mod beside;
 mod blocks;
 mod chain;
 mod keep;
+mod number;
 mod pool;
 mod room;
 mod rows;

@@ -5,9 +5,11 @@ ghost use Rattle.bcodes.specs.Ranges.{raised};
 ghost use Rattle.code_pool.specs.Lists.{IsPart, IsPoolRow, IsReserved, IsRun, IsTaken, blocks_of};
 ghost use Rattle.code_pool.specs.Lists.{further, label_of, list_at, no_list, row_at, with_list};
 ghost use Rattle.code_pool.specs.Lists.{with_kept, with_row, with_spare, cut_to, given, taken};
+ghost use Rattle.code_pool.specs.Positions.{with_positions};
 
 use crate::blocks::{BLOCK_ROWS, Blocks, MOST_BLOCKS};
 use crate::keep::move_kept;
+use crate::number::number_list;
 use crate::room::Room;
 use crate::rows::Rows;
 use crate::run::Run;
@@ -29,14 +31,25 @@ use std::marker::{Model, PhantomData};
 /// block each of its blocks is found in a number of steps logarithmic in the length of the list. A
 /// `walk` over a whole list takes a number of steps linear in its length.
 ///
-/// The only way to a stored code is to borrow it by `lend` or `lend_one`, which raise the meter's
-/// `lent`. A pool holds no value of its ledger `L`, so it cannot make a meter of its own.
-#[derive(Drop)]
+/// The only way to a stored code is to borrow it by `lend`, by `lend_one` or by `lend` of a `walk`,
+/// all of which raise the meter's `lent`. A pool holds no value of its ledger `L`, so it cannot make
+/// a meter of its own.
 #[derive_where(Debug)]
 pub struct Pool<L: Ledger> {
     rows: Rows,
     blocks: Blocks,
     ledger: PhantomData<L>,
+}
+
+// Written out, so that it is proved here once and not again wherever one is dropped.
+impl<L: Ledger> Drop for Pool<L> {
+    fn drop(self) {
+        let Pool {
+            rows: _rows,
+            blocks: _blocks,
+            ledger: _ledger,
+        } = self;
+    }
 }
 
 impl<L: Ledger> Model for Pool<L> {
@@ -290,6 +303,14 @@ impl<L: Ledger> Pool<L> {
         self.cut(list, kept);
         let needed = blocks_for(kept) as u64;
         self.give_blocks(list, self.blocks(list) - needed);
+    }
+
+    /// Gives the rows of a list the labels 0, 1, 2 and so on, in their order. It takes no memory.
+    pub fn number_rows(&mut self, list: u32)
+        requires { list < length self.old.lists }
+        ensures { self.new ≡ with_list self.old list (with_positions (list_at self.old list)) }
+    {
+        number_list(&mut self.rows, &self.blocks, list);
     }
 
     /// Empties a list and frees its blocks. The list stays open. It takes no memory.

@@ -96,6 +96,16 @@ impl Rows {
         self.labels[to] = label;
     }
 
+    /// Gives the row at a place another label.
+    pub fn relabel(&mut self, at: usize, label: i64)
+        requires { at < length self.old.rows }
+        ensures { self.new ≡ record self.old {
+          rows = slice_set self.old.rows at (row_of label (row_in self.old at).code);
+        } }
+    {
+        self.labels[at] = label;
+    }
+
     /// The `n` rows from place `from` on, without copying.
     pub fn run(&self, from: usize, n: usize) -> Run<'_>
         requires { from + n ≤ length self.now.rows }

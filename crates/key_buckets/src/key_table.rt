@@ -12,9 +12,15 @@ use std::marker::Model;
 /// The list of each key, as the `map` of Faiss's binary hash indexes (`IndexBinaryHash.h`).
 ///
 /// It is seen as the keys with the numbers of their lists, in the order in which the keys came.
-#[derive(Drop)]
 pub struct KeyTable {
     map: IndexMap<u64, u32>,
+}
+
+// Written out, so that it is proved here once and not again wherever one is dropped.
+impl Drop for KeyTable {
+    fn drop(self) {
+        let KeyTable { map: _map } = self;
+    }
 }
 
 impl Model for KeyTable {
