@@ -17,7 +17,7 @@ use Rattle.code_pool.proofs.RowLemmas.{length-rows_in}
 use Rattle.list_scan.specs.Visited.{rows_at}
 
 -- the rows behind those before
-rows_more : (rows : List Row) (at size : ℕ) (ls : List ℤ) (bs : List ℕ) → IsRun rows at size ls bs
+pub rows_more : (rows : List Row) (at size : ℕ) (ls : List ℤ) (bs : List ℕ) → IsRun rows at size ls bs
     → take at rows ++ rows_in size ls bs ≡ take (at + length ls) rows
 rows_more rows at size ls bs run = ap (λ (rs : List Row). take at rows ++ rs) run.rows
     ∙ sym (take-add at (length ls) rows)

@@ -4,7 +4,8 @@ ghost use Rattle.bcodes.specs.Hits.{in_order};
 ghost use Rattle.bcodes.specs.Ranges.{raised};
 ghost use Rattle.list_scan.specs.Visited.{below, first, hits_on, rows_at, rows_on};
 
-use crate::scan::{offer_lists, offer_lists_below, room_for_scan};
+use crate::lists::{offer_lists, offer_lists_below};
+use crate::scan::room_for_scan;
 use bcodes::{Dim, Hits, Ledger, Meter, Want};
 use code_pool::Pool;
 use hit_lists::{BestK, RangeHits};

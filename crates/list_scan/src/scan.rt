@@ -4,7 +4,7 @@ ghost use Rattle.std.specs.List.{All};
 ghost use Rattle.bcodes.specs.declared.hit.Hit.{Hit};
 ghost use Rattle.bcodes.specs.Ranges.{raised};
 ghost use Rattle.code_pool.specs.Lists.{rows_in, run_rows};
-ghost use Rattle.list_scan.specs.Visited.{below, first, hits_on, rows_at, rows_on, scan_rows};
+ghost use Rattle.list_scan.specs.Visited.{below, first, hits_on, rows_on, scan_rows};
 
 use bcodes::{Ledger, Meter, Want};
 use code_pool::{Pool, RUN_ROWS, Run};
@@ -64,39 +64,6 @@ pub fn offer_list<L: Ledger>(
     }
 }
 
-/// Offers every row of some lists to the `k` best, one list after the other. The rest is as in
-/// `offer_list`.
-pub fn offer_lists<L: Ledger>(
-    pool: &Pool<L>,
-    lists: &[u32],
-    best: &mut BestK,
-    kernel: &Prepared<'_>,
-    distances: &mut [u32],
-    meter: &mut Meter<L>,
-)
-    requires exist { All (λ l. l < length pool.now.lists) lists.now }
-    requires size { pool.now.code_size ≡ length kernel.now }
-    requires bits { best.old.bits ≡ 8 * length kernel.now }
-    requires written { All (λ l. min (length (rows_on pool.now l)) scan_rows
-        ≤ length distances.old) lists.now }
-    requires room { length best.old.items + length (rows_at pool.now lists.now) ≤ best.old.most }
-    ensures items { (hits : List Hit) → best.old.items ≡ first best.old.k hits
-        → best.new.items
-        ≡ first best.old.k (hits ++ hits_on kernel.now (rows_at pool.now lists.now)) }
-    ensures grown { length best.new.items
-        ≤ length best.old.items + length (rows_at pool.now lists.now) }
-    ensures k { best.new.k ≡ best.old.k }
-    ensures most { best.new.most ≡ best.old.most }
-    ensures bits { best.new.bits ≡ best.old.bits }
-    ensures lent { meter.new
-        ≡ record meter.old { lent = raised meter.old.lent (length (rows_at pool.now lists.now)) } }
-    ensures rises { meter.old.lent ≤ meter.new.lent }
-{
-    for list in lists {
-        offer_list(pool, *list, best, kernel, distances, meter);
-    }
-}
-
 /// Adds the rows of a list whose distance from the query is strictly below `radius`, as Faiss's
 /// `InvertedListScanner::scan_codes_range` does.
 ///
@@ -131,37 +98,8 @@ pub fn offer_list_below<L: Ledger>(
     Ok(())
 }
 
-/// Adds the rows of some lists whose distance from the query is strictly below `radius`, one list
-/// after the other. The rest is as in `offer_list_below`.
-pub fn offer_lists_below<L: Ledger>(
-    pool: &Pool<L>,
-    lists: &[u32],
-    found: &mut RangeHits,
-    radius: u32,
-    kernel: &Prepared<'_>,
-    distances: &mut [u32],
-    meter: &mut Meter<L>,
-) -> Result<(), Want>
-    requires exist { All (λ l. l < length pool.now.lists) lists.now }
-    requires size { pool.now.code_size ≡ length kernel.now }
-    requires written { All (λ l. min (length (rows_on pool.now l)) scan_rows
-        ≤ length distances.old) lists.now }
-    ensures items { OnOk result (found.new.items
-        ≡ found.old.items ++ below radius (hits_on kernel.now (rows_at pool.now lists.now))) }
-    ensures lent { OnOk result
-        (meter.new.lent ≡ raised meter.old.lent (length (rows_at pool.now lists.now))) }
-    ensures lent_least { meter.old.lent ≤ meter.new.lent }
-    ensures lent_most { meter.new.lent ≤ meter.old.lent + length (rows_at pool.now lists.now) }
-    ensures asked { meter.new.asked ≡ meter.old.asked }
-{
-    for list in lists {
-        offer_list_below(pool, *list, found, radius, kernel, distances, meter)?;
-    }
-    Ok(())
-}
-
-// Offers each row of a run, with its distance from the query, a part of the run at a time.
-fn offer_run(best: &mut BestK, kernel: &Prepared<'_>, run: Run<'_>, distances: &mut [u32])
+/// Offers each row of a run, with its distance from the query, a part of the run at a time.
+pub fn offer_run(best: &mut BestK, kernel: &Prepared<'_>, run: Run<'_>, distances: &mut [u32])
     requires bits { best.old.bits ≡ 8 * length kernel.now }
     requires whole { length run.codes.now ≡ length run.labels.now * length kernel.now }
     requires written { min (length run.labels.now) scan_rows ≤ length distances.old }
@@ -183,9 +121,9 @@ fn offer_run(best: &mut BestK, kernel: &Prepared<'_>, run: Run<'_>, distances: &
     }
 }
 
-// Adds the rows of a run whose distance from the query is strictly below the radius, a part of the
-// run at a time.
-fn offer_run_below(
+/// Adds the rows of a run whose distance from the query is strictly below the radius, a part of the
+/// run at a time.
+pub fn offer_run_below(
     found: &mut RangeHits,
     radius: u32,
     kernel: &Prepared<'_>,

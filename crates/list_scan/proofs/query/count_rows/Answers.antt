@@ -1,4 +1,4 @@
-use Rattle.std.proofs.Common.{◌≡◌, ◌+◌, ◌<◌, ◌≤◌, Fits, w64, length, arith}
+use Rattle.std.proofs.Common.{◌+◌, arith}
 use Rattle.list_scan.proofs.ListLemmas.{length-rows_at, rows_at-le}
 use Rattle.list_scan.proofs.query.count_rows.Goals as goal
 

@@ -1,6 +1,4 @@
-use Rattle.std.proofs.Common.{◌≡◌, ℕ, zero, suc, List, [], take, refl, ap, ◌∙◌}
-use Rattle.bcodes.specs.declared.hit.Hit.{Hit}
-use Rattle.bcodes.specs.Hits.{in_order}
+use Rattle.std.proofs.Common.{◌≡◌, ℕ, zero, suc, List, [], refl, ap, ◌∙◌}
 use Rattle.list_scan.specs.Visited.{first, hits_on, rows_at}
 use Rattle.list_scan.proofs.query.search_lists.Goals as goal
 
