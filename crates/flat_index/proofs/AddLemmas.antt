@@ -26,7 +26,7 @@ rows_more old now new count i cs row here so_far this is =
     ∙ sym (take_more (numbered count cs) i row inside))
 
 -- the codes of codes under positions
-codes-numbered : (i : ℕ) (cs : List (List ℕ)) → map (λ (row : Row). row.code) (numbered i cs) ≡ cs
+pub codes-numbered : (i : ℕ) (cs : List (List ℕ)) → map (λ (row : Row). row.code) (numbered i cs) ≡ cs
 codes-numbered i [] = refl
 codes-numbered i (c ∷ cs) = ap (λ (ds : List (List ℕ)). c ∷ ds) (codes-numbered (i + 1) cs)
 

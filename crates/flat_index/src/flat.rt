@@ -1,13 +1,16 @@
-ghost use Rattle.std.specs.Prelude.{◌≡◌, ◌+◌, ◌/◌, ◌^◌, ◌<◌, ◌≤◌, [], ◌++◌, length, slice_index_or};
-ghost use Rattle.std.specs.Prelude.{IfOk, OnOk, OnErr};
+ghost use Rattle.std.specs.Prelude.{◌≡◌, ◌+◌, ◌/◌, ◌^◌, ◌<◌, ◌≤◌, [], ◌++◌, length, map};
+ghost use Rattle.std.specs.Prelude.{slice_index_or, Some, IfOk, OnOk, OnErr};
+ghost use Rattle.std.specs.List.{items_where_true};
 ghost use Rattle.bcodes.specs.Ranges.{load_limit, raised};
-ghost use Rattle.bcodes.specs.Value.{Flat as FlatForm, Bare, numbered, weight};
+ghost use Rattle.bcodes.specs.Value.{Flat as FlatForm, Bare, labels_from, numbered, weight};
 ghost use Rattle.bcodes.specs.Answers.{best, looked, within};
 ghost use Rattle.code_pool.specs.Lists.{IsRun, list_at};
+ghost use Rattle.id_select.specs.Removal.{removed, stays};
 
 use bcodes::{Addable, BinaryIndex, Codes, Dim, Hits, Ledger, Meter, Want};
 use code_pool::{Pool, Run};
 use hit_lists::{BestK, RangeHits};
+use id_select::{KeepPositions, Selector};
 use kernel_table::Prepared;
 use list_scan::{offer_list, offer_list_below, room_for_scan};
 use std::alloc::Global;
@@ -21,6 +24,7 @@ use std::marker::Model;
 /// caller's meter alone. The index never exceeds the load limit.
 #[derive(Drop)]
 pub struct Flat<L: Ledger> {
+    alloc: Global,
     dim: Dim,
     pool: Pool<L>,
 }
@@ -43,7 +47,7 @@ impl<L: Ledger> Flat<L> {
     {
         let mut pool = Pool::new(alloc, dim.bytes());
         pool.open_list()?;
-        Ok(Flat { dim, pool })
+        Ok(Flat { alloc, dim, pool })
     }
 
     /// The bytes of the code at position `p`, which is its inner label. The meter's `lent` rises by
@@ -83,6 +87,35 @@ impl<L: Ledger> Flat<L> {
         self.pool.reserve(0, codes.len())?;
         append_all(&mut self.pool, count, codes);
         Ok(())
+    }
+
+    /// Removes the codes whose positions are chosen, and gives how many these were. The others take
+    /// the positions 0, 1, 2 and so on, in their order.
+    ///
+    /// # Errors
+    ///
+    /// If memory runs out. The index is then as before.
+    pub fn remove(&mut self, sel: &Selector) -> Result<u64, Want>
+        ensures ok { OnOk result
+            (removed sel.now (Bare (FlatForm self.old)) ≡ Some (Bare (FlatForm self.new))) }
+        ensures count { IfOk result (λ n. length self.new.codes + n ≡ length self.old.codes) }
+        ensures err { OnErr result (self.new ≡ self.old) }
+    {
+        let count = self.count();
+        let flags = position_flags(self.alloc, sel, count)?;
+        Flat::keep(self, &flags);
+        Ok(count - self.count())
+    }
+
+    /// Keeps the codes whose flags are true. They take the positions 0, 1, 2 and so on, in their
+    /// order. It takes no memory.
+    pub fn keep(&mut self, flags: &[bool])
+        requires { length flags.now ≡ length self.old.codes }
+        ensures { self.new
+            ≡ record self.old { codes = items_where_true flags.now self.old.codes } }
+    {
+        self.pool.keep_rows(0, flags);
+        self.pool.number_rows(0);
     }
 }
 
@@ -188,6 +221,25 @@ impl<L: Ledger> Addable for Flat<L> {
         self.append(codes)?;
         Ok(())
     }
+}
+
+/// Codes leave by their positions, as with `Flat::keep`.
+impl<L: Ledger> KeepPositions for Flat<L> {
+    fn keep(&mut self, flags: &[bool]) {
+        Flat::keep(self, flags);
+    }
+}
+
+// A flag for each of the first `count` positions, true for those that are not chosen.
+fn position_flags(alloc: Global, sel: &Selector, count: u64) -> Result<Vec<bool>, Want>
+    requires { count < 2 ^ 63 }
+    ensures { IfOk result (λ flags. flags.items ≡ map (stays sel.now) (labels_from 0 count)) }
+{
+    let mut flags = Vec::with_capacity(alloc, count as usize)?;
+    for position in 0..count {
+        flags.push_reserved(!sel.has(position as i64));
+    }
+    Ok(flags)
 }
 
 // Appends codes under their positions to list 0, which has `count` rows and room for the codes.

@@ -43,7 +43,7 @@ All-probed P (Ivf v) q a =
 All-probed P (Hash v) q a = All-filter (is_probed_hash v q) P v.rows a
 All-probed P (Multi v) q a = All-filter (is_probed_multi v q) P (numbered 0 v.codes) a
 
-All-ranked : (P : ℤ → Type 0) (q : List ℕ) (rows : List Row) → All (λ row. P row.label) rows
+pub All-ranked : (P : ℤ → Type 0) (q : List ℕ) (rows : List Row) → All (λ row. P row.label) rows
     → All (λ h. P h.label) (ranked_rows q rows)
 All-ranked P q rows a = All-in_order (λ (h : Hit). P h.label) (map (hit_of q) rows)
     (All-map (λ (h : Hit). P h.label) (hit_of q) rows a)

@@ -1,3 +1,4 @@
 pub mod RowLemmas
 pub mod HitLemmas
 pub mod SettingLemmas
+pub mod RemoveLemmas

@@ -142,7 +142,7 @@ place_more m n label h p =
     let most = p.most in
     record { least = least; most = omega (arith, ints) }
 
-All-numbered : (i n : ℕ) (cs : List (List ℕ)) → i + length cs ≤ n
+pub All-numbered : (i n : ℕ) (cs : List (List ℕ)) → i + length cs ≤ n
     → All (λ (row : Row). IsPlace n row.label) (numbered i cs)
 All-numbered i n cs h = λ k d low.
     let here : k < length cs = omega (arith, low, length-numbered i cs) in

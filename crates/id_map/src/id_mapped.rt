@@ -5,13 +5,15 @@ ghost use Rattle.bcodes.specs.Ranges.{load_limit};
 ghost use Rattle.bcodes.specs.Value.{Bare, IdMap, Ivf, IvfValue, IsNumbering, IsPlace, inner_of};
 ghost use Rattle.bcodes.specs.Value.{count_of, count_of_inner, rows_of, dim_of_inner, load_of_inner};
 ghost use Rattle.bcodes.specs.Settings.{ivf_in_inner, needs_ids};
-ghost use Rattle.bcodes.specs.Answers.{given_inner};
+ghost use Rattle.bcodes.specs.Answers.{given_inner, outer};
+ghost use Rattle.id_select.specs.Removal.{flat_in_inner, removed};
 
-use crate::labels::{append_ids, count_up, put_ids};
+use crate::labels::{append_ids, count_up, put_ids, retain_ids};
 use bcodes::{
     Addable, BinaryIndex, Codes, Dim, DirectError, Hits, KeySettings, ListSettings, MapName, Meter,
     Want,
 };
+use id_select::{KeepPositions, Selector};
 use std::alloc::Global;
 use std::marker::Model;
 
@@ -87,6 +89,14 @@ impl<I: Addable> IdMapped<I> {
         ensures { result ≡ slice_index_or self.now.ids (nat_abs label) (pos 0) }
     {
         self.ids[label as usize]
+    }
+
+    /// Puts outer ids in place of the inner labels of hits.
+    pub fn put_outer(&self, hits: &mut Hits)
+        requires { All (λ h. IsPlace (count_of_inner self.now.inner) h.label) hits.old.items }
+        ensures { hits.new.items ≡ map (outer self.now.ids) hits.old.items }
+    {
+        put_ids(hits, &self.ids);
     }
 }
 
@@ -187,6 +197,29 @@ impl<I: Addable> Addable for IdMapped<I> {
         self.inner.add_all(&labels, codes, meter)?;
         append_ids(&mut self.ids, ids);
         Ok(())
+    }
+}
+
+/// Codes leave a Flat under outer ids together with their ids.
+impl<I: KeepPositions> IdMapped<I> {
+    /// Removes the codes whose ids are chosen, and these ids, and gives how many codes left. The
+    /// codes inside close up.
+    ///
+    /// # Errors
+    ///
+    /// If memory runs out. The index is then as before.
+    pub fn remove(&mut self, sel: &Selector) -> Result<u64, Want>
+        requires is_flat { IsSome (flat_in_inner self.old.inner) }
+        ensures ok { OnOk result (removed sel.now (IdMap self.old.name self.old.inner self.old.ids)
+            ≡ Some (IdMap self.new.name self.new.inner self.new.ids)) }
+        ensures count { IfOk result (λ n. length self.new.ids + n ≡ length self.old.ids) }
+        ensures err { OnErr result (self.new ≡ self.old) }
+    {
+        let count = self.ids.len();
+        let flags = sel.flags(self.alloc, &self.ids)?;
+        self.inner.keep(&flags);
+        retain_ids(&mut self.ids, sel);
+        Ok((count - self.ids.len()) as u64)
     }
 }
 

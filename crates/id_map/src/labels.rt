@@ -1,11 +1,13 @@
 ghost use Rattle.std.specs.Prelude.{◌≡◌, ◌+◌, ◌^◌, ◌<◌, ◌≤◌, ◌++◌, length, map, vec_len};
 ghost use Rattle.std.specs.Prelude.{vec_capacity, FitsSigned, IfOk};
 ghost use Rattle.std.specs.Int.{w64};
-ghost use Rattle.std.specs.List.{All};
+ghost use Rattle.std.specs.List.{All, filter};
 ghost use Rattle.bcodes.specs.Value.{IsPlace, labels_from};
 ghost use Rattle.bcodes.specs.Answers.{outer};
+ghost use Rattle.id_select.specs.Removal.{stays};
 
 use bcodes::{Hits, Want};
+use id_select::Selector;
 use std::alloc::Global;
 
 /// The `n` labels from `from` on. `Want` says that memory ran out.
@@ -32,6 +34,13 @@ pub fn append_ids(ids: &mut Vec<i64>, more: &[i64])
             Err(_) => unreachable!(),
         }
     }
+}
+
+/// Keeps the ids that are not chosen, in their order.
+pub fn retain_ids(ids: &mut Vec<i64>, sel: &Selector)
+    ensures { ids.new.items ≡ filter (stays sel.now) ids.old.items }
+{
+    ids.retain(|id| !sel.has(*id));
 }
 
 /// Puts the id at its place in place of each label.

@@ -11,3 +11,5 @@ pub mod FoundLemmas
 pub mod PlaceLemmas
 pub mod SettingLemmas
 pub mod NearestLemmas
+pub mod FlagLemmas
+pub mod LeaveLemmas

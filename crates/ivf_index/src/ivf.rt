@@ -1,5 +1,6 @@
 ghost use Rattle.std.specs.Prelude.{◌≡◌, ◌*◌, ◌/◌, ◌+◌, ◌^◌, ◌<◌, ◌≤◌, ◌↔◌, [], ◌∷◌, ◌++◌, false};
-ghost use Rattle.std.specs.Prelude.{true, length, map, min, slice_index_or, replicate, Err, IsOk};
+ghost use Rattle.std.specs.Prelude.{true, length, map, min, slice_index_or, replicate, Some};
+ghost use Rattle.std.specs.Prelude.{Err, IsOk};
 ghost use Rattle.std.specs.Prelude.{IsTrue, IfOk, OnOk, OnErr};
 ghost use Rattle.std.specs.List.{All};
 ghost use Rattle.bcodes.specs.Ranges.{load_limit, raised};
@@ -9,18 +10,23 @@ ghost use Rattle.bcodes.specs.Answers.{best, looked, near, paired, within};
 ghost use Rattle.ivf_index.specs.Table.{on_list, put_row, put_rows};
 ghost use Rattle.ivf_index.specs.Found.{code_labelled};
 ghost use Rattle.code_pool.specs.Lists.{IsRun, no_list};
+ghost use Rattle.id_select.specs.Removal.{removed};
 
 use crate::CentroidError;
 use crate::direct_map::{DirectMap, entry_of, map_of, reserve_places};
 use crate::entry::place_of;
+use crate::keep::keep_lists;
+use crate::list_flags::{ListFlags, flag_lists};
 use crate::near::near_lists;
 use crate::nearest::nearest_lists;
+use crate::order_flags::flag_order;
 use crate::put::put_all;
 use bcodes::{
     Addable, BinaryIndex, Codes, Dim, DirectError, Hits, Ledger, ListSettings, Meter, Want,
 };
 use code_pool::{Pool, Run};
 use flat_index::Flat;
+use id_select::Selector;
 use list_scan::{range_lists, search_lists};
 use row_lists::reserve_each;
 use std::alloc::Global;
@@ -253,6 +259,28 @@ impl<L: Ledger> Ivf<L> {
         Ok(())
     }
 
+    /// Removes the rows whose labels are chosen, and gives how many these were. The others keep
+    /// their labels, their lists and their order. It does not work with a direct map.
+    ///
+    /// # Errors
+    ///
+    /// If memory runs out. The index is then as before.
+    pub fn remove(&mut self, sel: &Selector) -> Result<u64, Want>
+        requires direct { self.old.direct ≡ false }
+        ensures ok { OnOk result
+            (removed sel.now (Bare (IvfForm self.old)) ≡ Some (Bare (IvfForm self.new))) }
+        ensures count { IfOk result (λ n. length self.new.rows + n ≡ length self.old.rows) }
+        ensures err { OnErr result (self.new ≡ self.old) }
+    {
+        let count = self.order.len(0);
+        let ListFlags { flags, mut starts } = flag_lists(self.alloc, &self.lists, count, sel)?;
+        let order = flag_order(self.alloc, &self.order, &flags, &mut starts)?;
+        // Behind their starts now stand the ends of the lists' flags. From here on nothing fails.
+        keep_lists(&mut self.lists, &flags, &starts);
+        self.order.keep_rows(0, &order);
+        Ok((count - self.order.len(0)) as u64)
+    }
+
     /// The bytes of centroid `i`. The meter's `lent` rises by 1.
     pub fn centroid(&self, i: u32, meter: &mut Meter<L>) -> &[u8]
         requires { i < length self.now.centroids }
@@ -333,6 +361,7 @@ impl<L: Ledger> Ivf<L> {
     {
         self.direct.is_some()
     }
+
     // The lists that a query reads. It compares all centroids.
     fn probed(&self, alloc: Global, q: &[u8], meter: &mut Meter<L>) -> Result<Vec<u32>, Want>
         requires size { length q.now ≡ self.now.dim / 8 }

@@ -55,13 +55,12 @@ fn note_list<L: Ledger>(pool: &Pool<L>, list: u32, places: &mut [u64]) -> bool
     ensures no { result ≡ false → IsOutside (lists_in pool.now) (length places.old) }
 {
     let count = pool.len(list);
-    let mut from = 0;
-    while from < count {
-        let labels = pool.labels(list, from);
-        if !note_run(list, from, labels, places) {
+    let mut walk = pool.walk(list);
+    while walk.at() < count {
+        let from = walk.at();
+        if !note_run(list, from, walk.labels(), places) {
             return false;
         }
-        from += labels.len();
     }
     true
 }

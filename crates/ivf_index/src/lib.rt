@@ -5,10 +5,16 @@ mod centroid_error;
 mod direct_map;
 mod entry;
 mod ivf;
+mod keep;
 mod label_places;
+mod list_flags;
 mod near;
 mod nearest;
+mod order_flags;
 mod put;
 
 pub use centroid_error::CentroidError;
 pub use ivf::Ivf;
+
+#[cfg(test)]
+mod tests;
