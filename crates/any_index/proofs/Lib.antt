@@ -1,3 +1,4 @@
 pub mod LoadLemmas
 pub mod KindLemmas
 pub mod LabelLemmas
+pub mod RemoveLemmas

@@ -1,13 +1,15 @@
 ghost use Rattle.std.specs.Prelude.{◌≡◌, ℕ, ◌+◌, ◌^◌, ◌<◌, ◌≤◌, ◌↔◌, map, true, false, [], ◌∷◌, length};
 ghost use Rattle.std.specs.Prelude.{None, Some, Err, IfOk, IfSome, IsNone, IsOk, IsSome};
-ghost use Rattle.std.specs.Prelude.{IsTrue, OnOk, OnErr};
+ghost use Rattle.std.specs.Prelude.{IsTrue, OnOk, OnErr, is_some};
 ghost use Rattle.std.specs.List.{All};
 ghost use Rattle.bcodes.specs.Ranges.{load_limit, raised};
 ghost use Rattle.bcodes.specs.Value.{Bare, IdMap, IvfValue, IsNumbering, IsPlace, ids_of};
 ghost use Rattle.bcodes.specs.Value.{inner_of, count_of, count_of_inner, dim_of, is_trained};
 ghost use Rattle.bcodes.specs.Value.{labels_from, load_of, rows_of_inner, takes_ids};
 ghost use Rattle.bcodes.specs.Settings.{ivf_in, key_bits, multi_in, needs_ids, with_ivf, with_nflip};
-ghost use Rattle.bcodes.specs.Answers.{after_add, after_centroids};
+ghost use Rattle.bcodes.specs.Answers.{after_add, after_centroids, relabelled};
+ghost use Rattle.id_select.specs.Removal.{removed};
+ghost use Rattle.id_select.specs.declared.selector.Selector.{Selector};
 ghost use Rattle.any_index.specs.Kinds.{inner_value};
 ghost use Rattle.any_index.specs.Specs.{held_of, prefix_of_name, spec_of};
 ghost use Rattle.any_index.specs.Labels.{code_labelled, finds_labels, outer_label};
@@ -19,6 +21,7 @@ use bcodes::{
 };
 use factory_text::{Prefix, Spec};
 use id_map::{IdMapped, count_up};
+use id_select::Selector;
 use multi_hash::Multi;
 use std::alloc::Global;
 use std::marker::Model;
@@ -26,9 +29,15 @@ use std::marker::Model;
 /// An index of any kind, plain or under outer ids. It is seen as its value.
 ///
 /// Its queries hand on the caller's meter. Its adds make one of their own, which nobody reads.
-#[derive(Drop)]
 pub struct AnyIndex {
     held: Held,
+}
+
+// Written out, so that it is proved here once and not again wherever an index is dropped.
+impl Drop for AnyIndex {
+    fn drop(self) {
+        let AnyIndex { held: _held } = self;
+    }
 }
 
 #[derive(Drop)]
@@ -263,6 +272,35 @@ impl AnyIndex {
         with_held!(&mut self.held, index => index.set_nflip(n));
     }
 
+    /// Whether rows can be removed: from a plain Flat, from a plain IVF without a direct map, and
+    /// from a Flat under outer ids.
+    pub fn removes_rows(&self) -> bool
+        ensures { (s : Selector) → result ≡ is_some (removed s self.now) }
+    {
+        match self.inner() {
+            InnerIndex::Flat(_) => true,
+            InnerIndex::Ivf(index) => !self.needs_ids() && !index.direct(),
+            InnerIndex::Hash(_) | InnerIndex::Multi(_) => false,
+        }
+    }
+
+    /// Removes the rows that are chosen, by their outer ids where the index has them and else by
+    /// their labels, and gives how many these were. The codes of a Flat close up.
+    ///
+    /// # Errors
+    ///
+    /// If memory runs out. The index is then as before.
+    pub fn remove(&mut self, sel: &Selector) -> Result<u64, Want>
+        requires removes { IsSome (removed sel.now self.old) }
+        ensures ok { OnOk result (removed sel.now self.old ≡ Some self.new) }
+        ensures count { IfOk result (λ n. count_of self.new + n ≡ count_of self.old) }
+        ensures err { OnErr result (self.new ≡ self.old) }
+    {
+        // For the proof that there are as many outer ids as rows: the value is legal.
+        let _dim = self.dim();
+        with_held!(&mut self.held, index => index.remove(sel))
+    }
+
     /// The code of the row with a label, in a plain Flat or in a plain IVF with a direct map. It
     /// is the one code of the list. The meter's `lent` rises by 1.
     ///
@@ -331,6 +369,17 @@ impl AnyIndex {
         match &self.held {
             Held::Plain(_) => label,
             Held::Mapped(index) => index.outer(label),
+        }
+    }
+
+    /// Puts outer ids in place of the inner labels of hits, where the index has outer ids.
+    pub fn put_outer(&self, hits: &mut Hits)
+        requires { All (λ h. IsPlace (count_of self.now) h.label) hits.old.items }
+        ensures { hits.new.items ≡ relabelled self.now hits.old.items }
+    {
+        match &self.held {
+            Held::Plain(_) => {}
+            Held::Mapped(index) => index.put_outer(hits),
         }
     }
 }

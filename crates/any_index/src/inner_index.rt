@@ -5,6 +5,7 @@ use bcodes::{
 use factory_text::Kind;
 use flat_index::Flat;
 use hash_index::Hash;
+use id_select::{KeepPositions, Selector};
 use ivf_index::Ivf;
 use multi_hash::Multi;
 use std::alloc::Global;
@@ -35,7 +36,9 @@ macro_rules! with_kind {
 }
 
 impl InnerIndex {
-    ghost use Rattle.std.specs.Prelude.{◌≡◌};
+    ghost use Rattle.std.specs.Prelude.{◌≡◌, ◌+◌, IfOk, IsSome, OnErr, OnOk, Some};
+    ghost use Rattle.bcodes.specs.Value.{Bare, count_of_inner};
+    ghost use Rattle.id_select.specs.Removal.{removed};
     ghost use Rattle.any_index.specs.Kinds.{inner_value};
     ghost use Rattle.any_index.specs.Specs.{held_inner, kind_of};
 
@@ -58,6 +61,26 @@ impl InnerIndex {
         match self {
             InnerIndex::Ivf(index) => index.held(),
             InnerIndex::Flat(_) | InnerIndex::Hash(_) | InnerIndex::Multi(_) => 0,
+        }
+    }
+
+    /// Removes the rows whose labels are chosen, and gives how many these were.
+    ///
+    /// # Errors
+    ///
+    /// If memory runs out. The index is then as before.
+    pub fn remove(&mut self, sel: &Selector) -> Result<u64, Want>
+        requires removes { IsSome (removed sel.now (Bare (inner_value self.old))) }
+        ensures ok { OnOk result (removed sel.now (Bare (inner_value self.old))
+            ≡ Some (Bare (inner_value self.new))) }
+        ensures count { IfOk result (λ n. count_of_inner (inner_value self.new) + n
+            ≡ count_of_inner (inner_value self.old)) }
+        ensures err { OnErr result (inner_value self.new ≡ inner_value self.old) }
+    {
+        match self {
+            InnerIndex::Flat(index) => index.remove(sel),
+            InnerIndex::Ivf(index) => index.remove(sel),
+            InnerIndex::Hash(_) | InnerIndex::Multi(_) => unreachable!(),
         }
     }
 }
@@ -165,6 +188,16 @@ impl KeySettings for InnerIndex {
             InnerIndex::Hash(index) => KeySettings::set_nflip(index, n),
             InnerIndex::Multi(index) => KeySettings::set_nflip(index, n),
             InnerIndex::Flat(_) | InnerIndex::Ivf(_) => {}
+        }
+    }
+}
+
+/// Codes leave a Flat. No other kind closes up.
+impl KeepPositions for InnerIndex {
+    fn keep(&mut self, flags: &[bool]) {
+        match self {
+            InnerIndex::Flat(index) => index.keep(flags),
+            InnerIndex::Ivf(_) | InnerIndex::Hash(_) | InnerIndex::Multi(_) => unreachable!(),
         }
     }
 }
