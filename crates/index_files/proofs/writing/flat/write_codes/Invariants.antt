@@ -1,0 +1,20 @@
+use Rattle.std.proofs.Common.{◌≡◌, ◌-◌, ◌≤◌, drop, true}
+use Rattle.bcodes.specs.Value.{numbered}
+use Rattle.file_parts.specs.Storing.{behind, files_in, maker_of, name_of, written}
+use Rattle.index_files.specs.Groups.{concat}
+use Rattle.index_files.proofs.WritingLemmas.{code_bytes}
+use Rattle.index_files.proofs.writing.flat.write_codes.Given as goal
+
+abbrev pub invariant-loop-from : goal.invariant-loop-from
+invariant-loop-from g l = record {
+  same_shelf : name_of l.store ≡ name_of l.fn.store;
+  rest : behind (code_bytes (drop l.from (numbered 0 l.flat.codes)))
+      (written g.H.Shelf.contents l.store)
+      ≡ behind (concat l.flat.codes) (written g.H.Shelf.contents l.fn.store);
+  files : files_in (g.H.Shelf.contents (maker_of l.store)) ≡ files_in (g.H.Shelf.contents (maker_of l.fn.store));
+  making : g.H.Shelf.is_making (maker_of l.store) ≡ true;
+  later : g.H.Shelf.faults (maker_of l.fn.store) ≤ g.H.Shelf.faults (maker_of l.store);
+}
+
+abbrev pub decreases-loop-from : goal.decreases-loop-from
+decreases-loop-from g l = l.count - l.from

@@ -1,0 +1,64 @@
+-- The fields of a whole file, each with its checks in order.
+use Rattle.std.specs.Prelude.{ℕ, ℤ, Bool, true, List, []}
+use Rattle.bcodes.specs.declared.map_name.MapName.{MapName}
+use Rattle.bcodes.specs.Value.{Inner, Flat, Ivf, Hash, Multi, IndexValue, Bare, IdMap}
+use Rattle.file_parts.specs.declared.reason.Reason.TheVariants as reason
+use Rattle.file_parts.specs.declared.role.Role.{Role}
+use Rattle.file_parts.specs.declared.role.Role.TheVariants.{Outermost, Within}
+use Rattle.file_parts.specs.Format.{Format, done, ◌>>=◌}
+use Rattle.file_parts.specs.Fields.{must_be, number, any_signed, repeated, HeadValue, header}
+use Rattle.index_files.specs.declared.kind_name.KindName.{KindName}
+use Rattle.index_files.specs.declared.kind_name.KindName.TheVariants as named
+use Rattle.index_files.specs.declared.start.Start.{Start}
+use Rattle.index_files.specs.declared.start.Start.TheVariants.{Plain, Mapped}
+use Rattle.index_files.specs.Letters.{is_index, is_plain, letters}
+use Rattle.index_files.specs.FlatFormat.{flat_value, flat_body}
+use Rattle.index_files.specs.IvfFormat.{ivf_body}
+use Rattle.index_files.specs.HashFormat.{hash_body}
+use Rattle.index_files.specs.MultiFormat.{multi_body}
+
+-- what follows the letters of a kind
+unfoldable pub body : KindName → Role → Format Inner
+body named.Flat role = flat_body role >>= λ v. done (Flat v)
+body named.Ivf role = ivf_body role >>= λ v. done (Ivf v)
+body named.Hash role = hash_body role >>= λ v. done (Hash v)
+body named.Multi role = multi_body role >>= λ v. done (Multi v)
+
+unfoldable pub id_count_field : ℕ → Format ℕ
+id_count_field count = number 8 (must_be count reason.VectorSize)
+
+-- the outer ids, with their count
+abbrev pub outer_ids : ℕ → Format (List ℤ)
+outer_ids count = do
+  size ← id_count_field count
+  repeated count (any_signed 8)
+
+abbrev pub map_ids : MapName → ℕ → Inner → Format IndexValue
+map_ids name count v = outer_ids count >>= λ ids. done (IdMap name v ids)
+
+unfoldable pub map_body : MapName → KindName → ℕ → ℕ → Format IndexValue
+map_body name kind dim count = body kind (Within dim count) >>= map_ids name count
+
+-- letters that are not expected do not pass, so nothing is read after them
+abbrev pub nothing_more : Format IndexValue
+nothing_more = done (Bare (Flat (flat_value 0 [])))
+
+abbrev pub inside : MapName → HeadValue → Start → Format IndexValue
+inside name h (Plain kind) = map_body name kind h.dim h.count
+inside name h _ = nothing_more
+
+abbrev pub map_start : (KindName → Bool) → MapName → HeadValue → Format IndexValue
+map_start reads name h = letters (is_plain reads) >>= inside name h
+
+abbrev pub index : (KindName → Bool) → Start → Format IndexValue
+index reads (Plain kind) = body kind Outermost >>= λ v. done (Bare v)
+index reads (Mapped name) = header Outermost >>= map_start reads name
+index reads _ = nothing_more
+
+-- a file of an index of one of these kinds
+unfoldable pub file_of : (KindName → Bool) → Format IndexValue
+file_of reads = letters (is_index reads) >>= index reads
+
+-- of any kind
+unfoldable pub file : Format IndexValue
+file = file_of (λ kind. true)

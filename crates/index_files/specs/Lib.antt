@@ -1,0 +1,14 @@
+pub mod Groups
+pub mod Parts
+pub mod File
+pub mod Canon
+pub mod Letters
+pub mod FlatFormat
+pub mod IvfFormat
+pub mod HashFormat
+pub mod MultiFormat
+pub mod FileFormat
+pub mod Laws
+pub mod Errors
+pub mod Saving
+pub mod Loading

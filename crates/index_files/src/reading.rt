@@ -1,0 +1,6 @@
+mod flat;
+mod index;
+mod load;
+mod start;
+
+pub use load::decode;

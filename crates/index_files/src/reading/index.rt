@@ -1,0 +1,230 @@
+ghost use Rattle.std.specs.Prelude.{◌≡◌, IfOk, IsErrOf, IsTrue, length};
+ghost use Rattle.any_index.specs.Kinds.{inner_value};
+ghost use Rattle.file_parts.specs.Fields.{any_signed, repeated};
+ghost use Rattle.file_parts.specs.Feeding.{GivesField, StaysOver, shelf_of};
+ghost use Rattle.file_parts.specs.Heads.{view_head};
+ghost use Rattle.index_files.specs.FileFormat.{body, file_of, id_count_field, index};
+ghost use Rattle.index_files.specs.FileFormat.{map_body, map_start, outer_ids};
+ghost use Rattle.index_files.specs.Laws.{FitsRole, IsBodyRole};
+ghost use Rattle.index_files.specs.Letters.{is_index, is_plain, is_read, letters};
+ghost use Rattle.index_files.specs.declared.start.Start.TheVariants as start;
+
+use crate::reading::flat::read_flat;
+use crate::reading::start::{Wanted, read_start};
+use crate::{KindName, Start};
+use any_index::{AnyIndex, InnerIndex};
+use bcodes::MapName;
+use file_parts::{Feed, Head, PartError, Reason, Role};
+use outside::Shelf;
+use std::alloc::Global;
+
+// A whole index, with its letters.
+#[tactic(auto, unfolding(crate::specs::FileFormat::file_of), using(file_parts::proofs::Reading::run_then))]
+pub fn read_file<H: Shelf>(alloc: Global, feed: &mut Feed<'_, H>) -> Result<AnyIndex, PartError>
+    requires { IsTrue (H.is_reading (shelf_of feed.old)) }
+    ensures gives { GivesField H.contents (λ index. index) (file_of is_read)
+        feed.old feed.new result }
+    ensures shelf { StaysOver H.contents H.is_reading H.faults feed.old feed.new
+        (IsErrOf result PartError.Failed) }
+{
+    let start = read_start(feed, Wanted::Index)?;
+    let index = read_index(alloc, feed, start)?;
+    Ok(index)
+}
+
+// What follows the letters.
+fn read_index<H: Shelf>(
+    alloc: Global,
+    feed: &mut Feed<'_, H>,
+    start: Start,
+) -> Result<AnyIndex, PartError>
+    requires reading { IsTrue (H.is_reading (shelf_of feed.old)) }
+    requires wanted { IsTrue (is_index is_read start) }
+    ensures gives { GivesField H.contents (λ index. index) (index is_read start)
+        feed.old feed.new result }
+    ensures shelf { StaysOver H.contents H.is_reading H.faults feed.old feed.new
+        (IsErrOf result PartError.Failed) }
+{
+    let index = match start {
+        Start::Plain(kind) => read_plain(alloc, feed, kind)?,
+        Start::Mapped(name) => read_mapped(alloc, feed, name)?,
+        Start::NotRead | Start::Unknown => unreachable!(),
+    };
+    Ok(index)
+}
+
+#[tactic(auto, using(file_parts::proofs::Reading::run_then))]
+fn read_plain<H: Shelf>(
+    alloc: Global,
+    feed: &mut Feed<'_, H>,
+    kind: KindName,
+) -> Result<AnyIndex, PartError>
+    requires reading { IsTrue (H.is_reading (shelf_of feed.old)) }
+    requires kind { IsTrue (is_read kind) }
+    ensures gives { GivesField H.contents (λ index. index) (index is_read (start.Plain kind))
+        feed.old feed.new result }
+    ensures shelf { StaysOver H.contents H.is_reading H.faults feed.old feed.new
+        (IsErrOf result PartError.Failed) }
+{
+    let inner = read_inner(alloc, feed, kind, Role::Outermost)?;
+    Ok(AnyIndex::plain(inner))
+}
+
+// An index under outer ids.
+#[tactic(auto, using(file_parts::proofs::Reading::run_then))]
+fn read_mapped<H: Shelf>(
+    alloc: Global,
+    feed: &mut Feed<'_, H>,
+    name: MapName,
+) -> Result<AnyIndex, PartError>
+    requires { IsTrue (H.is_reading (shelf_of feed.old)) }
+    ensures gives { GivesField H.contents (λ index. index) (index is_read (start.Mapped name))
+        feed.old feed.new result }
+    ensures shelf { StaysOver H.contents H.is_reading H.faults feed.old feed.new
+        (IsErrOf result PartError.Failed) }
+{
+    let head = feed.head(Role::Outermost)?;
+    let index = read_map_start(alloc, feed, name, head)?;
+    Ok(index)
+}
+
+// What follows the header of an IDMap.
+#[tactic(auto, using(file_parts::proofs::Reading::run_then))]
+fn read_map_start<H: Shelf>(
+    alloc: Global,
+    feed: &mut Feed<'_, H>,
+    name: MapName,
+    head: Head,
+) -> Result<AnyIndex, PartError>
+    requires { IsTrue (H.is_reading (shelf_of feed.old)) }
+    ensures gives { GivesField H.contents (λ index. index) (map_start is_read name (view_head head))
+        feed.old feed.new result }
+    ensures shelf { StaysOver H.contents H.is_reading H.faults feed.old feed.new
+        (IsErrOf result PartError.Failed) }
+{
+    let kind = read_kind(feed)?;
+    let index = read_map_body(alloc, feed, name, kind, head)?;
+    Ok(index)
+}
+
+// The index under the ids, without its letters, and the ids.
+#[tactic(auto, unfolding(crate::specs::FileFormat::map_body), using(file_parts::proofs::Reading::run_then))]
+fn read_map_body<H: Shelf>(
+    alloc: Global,
+    feed: &mut Feed<'_, H>,
+    name: MapName,
+    kind: KindName,
+    head: Head,
+) -> Result<AnyIndex, PartError>
+    requires reading { IsTrue (H.is_reading (shelf_of feed.old)) }
+    requires kind { IsTrue (is_read kind) }
+    ensures gives { GivesField H.contents (λ index. index) (map_body name kind head.dim head.count)
+        feed.old feed.new result }
+    ensures shelf { StaysOver H.contents H.is_reading H.faults feed.old feed.new
+        (IsErrOf result PartError.Failed) }
+{
+    let inside = Role::Within {
+        dim: head.dim,
+        count: head.count,
+    };
+    let inner = read_inner(alloc, feed, kind, inside)?;
+    let ids = read_outer_ids(alloc, feed, head.count)?;
+    let index = AnyIndex::mapped(alloc, name, inner, &ids)?;
+    Ok(index)
+}
+
+// The letters of an index of one of the kinds that are read.
+fn read_kind<H: Shelf>(feed: &mut Feed<'_, H>) -> Result<KindName, PartError>
+    requires { IsTrue (H.is_reading (shelf_of feed.old)) }
+    ensures gives { GivesField H.contents (λ kind. start.Plain kind) (letters (is_plain is_read))
+        feed.old feed.new result }
+    ensures shelf { StaysOver H.contents H.is_reading H.faults feed.old feed.new
+        (IsErrOf result PartError.Failed) }
+    ensures kind { IfOk result (λ kind. IsTrue (is_read kind)) }
+{
+    match read_start(feed, Wanted::Plain)? {
+        Start::Plain(kind) => Ok(kind),
+        Start::Mapped(_) | Start::NotRead | Start::Unknown => unreachable!(),
+    }
+}
+
+// What follows the letters of a kind.
+#[tactic(auto, unfolding(crate::specs::FileFormat::body), using(file_parts::proofs::Reading::run_then, crate::proofs::LoadLemmas::fits_flat))]
+fn read_inner<H: Shelf>(
+    alloc: Global,
+    feed: &mut Feed<'_, H>,
+    kind: KindName,
+    role: Role,
+) -> Result<InnerIndex, PartError>
+    requires reading { IsTrue (H.is_reading (shelf_of feed.old)) }
+    requires kind { IsTrue (is_read kind) }
+    requires role { IsBodyRole role }
+    ensures gives { GivesField H.contents (λ inner. inner_value inner) (body kind role)
+        feed.old feed.new result }
+    ensures shelf { StaysOver H.contents H.is_reading H.faults feed.old feed.new
+        (IsErrOf result PartError.Failed) }
+    ensures fits { IfOk result (λ inner. FitsRole role (inner_value inner)) }
+{
+    match kind {
+        KindName::Flat => {
+            let flat = read_flat(alloc, feed, role)?;
+            Ok(InnerIndex::Flat(flat))
+        }
+        KindName::Ivf | KindName::Hash | KindName::Multi => unreachable!(),
+    }
+}
+
+// The outer ids, with their count.
+#[tactic(auto, using(file_parts::proofs::Reading::run_then))]
+fn read_outer_ids<H: Shelf>(
+    alloc: Global,
+    feed: &mut Feed<'_, H>,
+    count: u64,
+) -> Result<Vec<i64>, PartError>
+    requires { IsTrue (H.is_reading (shelf_of feed.old)) }
+    ensures gives { GivesField H.contents (λ ids. ids.items) (outer_ids count)
+        feed.old feed.new result }
+    ensures shelf { StaysOver H.contents H.is_reading H.faults feed.old feed.new
+        (IsErrOf result PartError.Failed) }
+    ensures count { IfOk result (λ ids. length ids.items ≡ count) }
+{
+    read_id_count(feed, count)?;
+    let ids = read_ids(alloc, feed, count)?;
+    Ok(ids)
+}
+
+#[tactic(auto, unfolding(crate::specs::FileFormat::id_count_field), using(file_parts::proofs::FeedLemmas::checked_gives))]
+fn read_id_count<H: Shelf>(feed: &mut Feed<'_, H>, count: u64) -> Result<u64, PartError>
+    requires { IsTrue (H.is_reading (shelf_of feed.old)) }
+    ensures gives { GivesField H.contents (λ n. n) (id_count_field count)
+        feed.old feed.new result }
+    ensures shelf { StaysOver H.contents H.is_reading H.faults feed.old feed.new
+        (IsErrOf result PartError.Failed) }
+{
+    let at = feed.at();
+    let size = feed.u64()?;
+    if size != count {
+        return Err(PartError::bad(at, Reason::VectorSize));
+    }
+    Ok(size)
+}
+
+fn read_ids<H: Shelf>(
+    alloc: Global,
+    feed: &mut Feed<'_, H>,
+    count: u64,
+) -> Result<Vec<i64>, PartError>
+    requires { IsTrue (H.is_reading (shelf_of feed.old)) }
+    ensures gives { GivesField H.contents (λ ids. ids.items) (repeated count (any_signed 8))
+        feed.old feed.new result }
+    ensures shelf { StaysOver H.contents H.is_reading H.faults feed.old feed.new
+        (IsErrOf result PartError.Failed) }
+    ensures count { IfOk result (λ ids. length ids.items ≡ count) }
+{
+    let mut ids = Vec::new(alloc);
+    for _ in 0..count {
+        let id = feed.i64()?;
+        ids.push(id)?;
+    }
+    Ok(ids)
+}

@@ -1,0 +1,6 @@
+mod flat;
+mod index;
+mod parts;
+mod save;
+
+pub use save::encode;
