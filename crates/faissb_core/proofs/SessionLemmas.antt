@@ -10,3 +10,6 @@ pub mod ChangeLemmas
 pub mod LegalLemmas
 pub mod MarkLemmas
 pub mod RoomLemmas
+pub mod RemoveLemmas
+pub mod GrownLemmas
+pub mod ShardLemmas

@@ -3,10 +3,14 @@ use Rattle.std.specs.Prelude.{◌≡◌, List, ℕ, codes}
 use Rattle.std.proofs.Common.{refl}
 use Rattle.std.specs.Fmt.{digits}
 use Rattle.hex.specs.Hex.{decode_pairs, encode_with}
-use Rattle.bcodes.specs.Bits.{differing}
+use Rattle.bcodes.specs.Bits.{differing, key}
 use Rattle.bcodes.specs.Hits.{is_above}
-use Rattle.bcodes.specs.Answers.{hits, best, within, looked, after_add, after_centroids}
+use Rattle.bcodes.specs.Answers.{hits, best, within, scan_best, looked, after_add, after_centroids}
 use Rattle.factory_text.specs.Reading.{read_spec}
+use Rattle.multi_hash.specs.Maps.{map_key, map_keys}
+use Rattle.growing_probe.specs.Grown.{grown}
+use Rattle.id_select.specs.Removal.{removed}
+use Rattle.shard_set.specs.Joined.{joined, joined_hits, joined_best, joined_within}
 use Rattle.outside.specs.Contents.{no_contents}
 use Rattle.faissb_core.specs.Language.Lines.{line_of}
 use Rattle.faissb_core.specs.Machine.Step.{step}
@@ -207,3 +211,63 @@ order_of_refusals_under_outer_ids = refl
 order_of_refusals_of_other_kinds : Answers (codes "new 16 BHash2x8\nnprobe 0\nmaxcodes 9223372036854775808\ndirectmap on\ncentroids 00\ncentroids 0000\nreconstruct 0\nnflip 9\nnflip 8\n") (codes "ok\nrefused kind\nrefused kind\nrefused kind\nrefused code\nrefused kind\nrefused kind\nrefused value\nok\n")
 unfolding digits step line_of read_spec hits best within looked after_add after_centroids differing is_above decode_pairs encode_with
 order_of_refusals_of_other_kinds = refl
+
+growing_search : Answers (codes "new 16 BHash2x8\nadd 0100 0101\nrange 2 0000\nrange 3 0000\nnearest 1 0000\nnearest 2 0000\nsearch 2 0000\n") (codes "ok\nadded 2 total 2\nhits 1 looked 1 exact\n0 1\nhits 1 looked 1 partial\n0 1\nhits 1 looked 1 exact\n0 1\nhits 2 looked 2 exact\n0 1\n1 2\nhits 1 looked 1 partial\n0 1\n")
+unfolding digits step line_of read_spec hits best within scan_best looked after_add after_centroids differing is_above grown removed joined joined_hits joined_best joined_within decode_pairs encode_with
+growing_search = refl
+
+growing_search_under_outer_ids : Answers (codes "new 8 IDMap,BHash1x8\nnearest 1 00\naddids 7:01 7:00\nnearest 9 00\nnearest 0 00\nnearest 1 0\n") (codes "ok\nhits 0 looked 0 exact\nadded 2 total 2\nhits 2 looked 2 exact\n7 0\n7 1\nrefused value\nrefused code\n")
+unfolding digits step line_of read_spec hits best within scan_best looked after_add after_centroids differing is_above grown removed joined joined_hits joined_best joined_within decode_pairs encode_with
+growing_search_under_outer_ids = refl
+
+growing_search_of_flat : Answers (codes "nearest 1 00\nnew 16 BFlat\nnearest 1 0000\nnearest 0 0000\nnearest 0 00\n") (codes "refused none\nok\nrefused kind\nrefused kind\nrefused code\n")
+unfolding digits step line_of read_spec hits best within scan_best looked after_add after_centroids differing is_above grown removed joined joined_hits joined_best joined_within decode_pairs encode_with
+growing_search_of_flat = refl
+
+shards_as_one : Answers (codes "new 16 BFlat\nadd 0100 0000\nshard\nnew 16 BFlat\nadd 0000 ffff\nshard\nshardsearch 3 0000\n") (codes "ok\nadded 2 total 2\nshards 1 total 2\nok\nadded 2 total 2\nshards 2 total 4\nhits 3 looked 4 exact\n1 0\n2 0\n0 1\n")
+unfolding digits step line_of read_spec hits best within scan_best looked after_add after_centroids differing is_above grown removed joined joined_hits joined_best joined_within decode_pairs encode_with
+shards_as_one = refl
+
+shards_and_an_index : Answers (codes "new 16 BFlat\nadd 0100 0000\nshard\nsearch 1 0000\nnew 24 BFlat\nshard\nsearch 1 000000\nshardrange 1 0000\nunshard\nshardrange 1 0000\nsearch 1 000000\n") (codes "ok\nadded 2 total 2\nshards 1 total 2\nrefused none\nok\nrefused mismatch\nhits 0 looked 0 exact\nhits 1 looked 2 exact\n1 0\nok\nrefused none\nhits 0 looked 0 exact\n")
+unfolding digits step line_of read_spec hits best within scan_best looked after_add after_centroids differing is_above grown removed joined joined_hits joined_best joined_within decode_pairs encode_with
+shards_and_an_index = refl
+
+shards_of_a_multi_hash : Answers (codes "new 16 BHash2x8\nadd 0101\nshard\nnew 16 BHash2x8\nnflip 1\nshard\nnflip 0\nadd 0001\nshard\nshardrange 2 0000\nshardrange 3 0000\nshardsearch 1 0001\n") (codes "ok\nadded 1 total 1\nshards 1 total 1\nok\nok\nrefused mismatch\nok\nadded 1 total 1\nshards 2 total 2\nhits 1 looked 1 exact\n1 1\nhits 1 looked 1 partial\n1 1\nhits 1 looked 2 exact\n1 0\n")
+unfolding digits step line_of read_spec hits best within scan_best looked after_add after_centroids differing is_above grown removed joined joined_hits joined_best joined_within decode_pairs encode_with
+shards_of_a_multi_hash = refl
+
+order_of_refusals_of_shards : Answers (codes "shard\nshardsearch 0 0\nnew 16 BIVF1\nshard\nnew 16 IDMap,BFlat\nshard\nnew 16 BFlat\nshard\nshardsearch 0 00\nshardsearch 0 0000\nshardrange 2147483648 0000\nshard x\nshard\nunshard\n") (codes "refused none\nrefused none\nok\nrefused kind\nok\nrefused kind\nok\nshards 1 total 0\nrefused code\nrefused value\nrefused value\nrefused line\nrefused none\nok\n")
+unfolding digits step line_of read_spec hits best within scan_best looked after_add after_centroids differing is_above grown removed joined joined_hits joined_best joined_within decode_pairs encode_with
+order_of_refusals_of_shards = refl
+
+removal_from_flat : Answers (codes "new 16 BFlat\nadd 0000 0100 0300 ffff\nremove 1 7 1\nsearch 9 0000\n") (codes "ok\nadded 4 total 4\nremoved 1 total 3\nhits 3 looked 3 exact\n0 0\n1 2\n2 16\n")
+unfolding digits step line_of read_spec hits best within scan_best looked after_add after_centroids differing is_above grown removed joined joined_hits joined_best joined_within decode_pairs encode_with
+removal_from_flat = refl
+
+removal_under_outer_ids : Answers (codes "new 16 IDMap,BFlat\naddids 7:0000 -3:0000 7:0100\nremove 7\nremoverange -3 -3\nsearch 3 0000\n") (codes "ok\nadded 3 total 3\nremoved 2 total 1\nremoved 0 total 1\nhits 1 looked 1 exact\n-3 0\n")
+unfolding digits step line_of read_spec hits best within scan_best looked after_add after_centroids differing is_above grown removed joined joined_hits joined_best joined_within decode_pairs encode_with
+removal_under_outer_ids = refl
+
+removal_from_ivf : Answers (codes "new 8 BIVF1\ncentroids 00\naddids 5:01 -2:03 5:07\nkeep -2\nadd ff\nsearch 3 00\n") (codes "ok\ncentroids 1 of 1\nadded 3 total 3\nremoved 2 total 1\nadded 1 total 2\nhits 2 looked 3 exact\n-2 2\n1 8\n")
+unfolding digits step line_of read_spec hits best within scan_best looked after_add after_centroids differing is_above grown removed joined joined_hits joined_best joined_within decode_pairs encode_with
+removal_from_ivf = refl
+
+removal_of_other_kinds : Answers (codes "remove 0\nnew 16 BHash8\nremove 0\nnew 8 BIVF1\ndirectmap on\nremoverange 0 1\ndirectmap off\nremoverange 0 1\nremove\nremoverange 1\nkeep 9223372036854775808\n") (codes "refused none\nok\nrefused kind\nok\nok\nrefused kind\nok\nremoved 0 total 0\nrefused line\nrefused line\nrefused line\n")
+unfolding digits step line_of read_spec hits best within scan_best looked after_add after_centroids differing is_above grown removed joined joined_hits joined_best joined_within decode_pairs encode_with
+removal_of_other_kinds = refl
+
+shown_flat : Answers (codes "show\nnew 8 IDMap,BFlat\nshow\nshow x\n") (codes "refused none\nok\nindex IDMap,BFlat\nd 8\ntotal 0\ntrained yes\nrefused line\n")
+unfolding digits step line_of read_spec hits best within scan_best looked after_add after_centroids differing is_above grown removed joined joined_hits joined_best joined_within decode_pairs encode_with
+shown_flat = refl
+
+shown_ivf : Answers (codes "new 8 BIVF2\nshow\ncentroids 00 ff\nadd 0f\nmaxcodes 3\ndirectmap on\nshow\n") (codes "ok\nindex BIVF2\nd 8\ntotal 0\ntrained no\nnlist 2\nnprobe 1\ncentroids 0\ncentroids 2 of 2\nadded 1 total 1\nok\nok\nindex BIVF2\nd 8\ntotal 1\ntrained yes\nnlist 2\nnprobe 1\ncentroids 2\nmaxcodes 3\ndirectmap array\n")
+unfolding digits step line_of read_spec hits best within scan_best looked after_add after_centroids differing is_above grown removed joined joined_hits joined_best joined_within decode_pairs encode_with
+shown_ivf = refl
+
+shown_hash : Answers (codes "new 16 BHash8\nadd 0000 0001 0100\nnflip 2\nshow\n") (codes "ok\nadded 3 total 3\nok\nindex BHash8\nd 16\ntotal 3\ntrained yes\nb 8\nnflip 2\nbound 3\nbuckets 2\n")
+unfolding digits step line_of read_spec hits best within scan_best looked after_add after_centroids differing key is_above grown removed joined joined_hits joined_best joined_within decode_pairs encode_with
+shown_hash = refl
+
+shown_multi_hash : Answers (codes "new 16 BHash2x8\nadd 0100 0101\nshow\n") (codes "ok\nadded 2 total 2\nindex BHash2x8\nd 16\ntotal 2\ntrained yes\nnhash 2\nb 8\nnflip 0\nbound 2\nbuckets 1 2\n")
+unfolding digits step line_of read_spec hits best within scan_best looked after_add after_centroids differing key map_key map_keys is_above grown removed joined joined_hits joined_best joined_within decode_pairs encode_with
+shown_multi_hash = refl

@@ -4,6 +4,8 @@ pub mod New
 pub mod Adding
 pub mod Settings
 pub mod Queries
+pub mod Removing
+pub mod Shards
 pub mod Step
 pub mod Script
 pub mod Legal

@@ -1,3 +1,4 @@
 pub mod Followed
 pub mod Results
 pub mod Room
+pub mod Shards

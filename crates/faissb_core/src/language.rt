@@ -3,11 +3,13 @@ mod command;
 mod grammar;
 mod id;
 mod id_words;
+mod ids;
 mod line;
 mod number;
 mod words;
 
-pub use command::{Command, IndexChange, IndexQuestion};
+pub use command::{Command, IndexChange, IndexQuestion, Selection, ShardQuestion};
 pub use id_words::IdWords;
+pub use ids::Ids;
 pub use line::{Line, read_line};
 pub use words::{cut_at, first_word};

@@ -1,16 +1,19 @@
 //! What the definitions themselves keep, as the contracts of calls that do nothing.
-ghost use Rattle.std.specs.Prelude.{◌≡◌, ℕ, List, true, is_some, is_err, IsTrue};
+ghost use Rattle.std.specs.Prelude.{◌≡◌, ℕ, List, true, false, is_some, is_err, IsTrue};
 ghost use Rattle.outside.specs.Contents.{Files};
+ghost use Rattle.faissb_core.specs.Language.Lines.{is_shard};
 ghost use Rattle.faissb_core.specs.Machine.Legal.{IsLegalState};
 ghost use Rattle.faissb_core.specs.Machine.State.{State};
 ghost use Rattle.faissb_core.specs.Machine.Step.{step};
 
-/// From a legal state a step leads to a legal one, and it leaves an index where there was one.
+/// From a legal state a step leads to a legal one. It leaves an index where there was one, unless it
+/// makes a shard of it.
 pub fn steps_keep_legal()
     ensures legal { (s : State) (files : Files) (line : List ℕ) → IsLegalState s
         → IsLegalState (step s files line).state }
     ensures index_stays { (s : State) (files : Files) (line : List ℕ) → IsLegalState s
-        → is_some s.index ≡ true → is_some (step s files line).state.index ≡ true }
+        → is_shard line ≡ false → is_some s.index ≡ true
+        → is_some (step s files line).state.index ≡ true }
 {}
 
 /// A refused line leaves the state and the files.

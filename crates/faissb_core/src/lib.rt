@@ -17,6 +17,9 @@ pub const LINE_LIMIT: usize = 1_048_576;
 /// The most hits that a search may be asked for.
 pub const K_LIMIT: u64 = 1_048_576;
 
+/// The most that all shards may weigh together.
+pub const SHARD_LIMIT: u64 = 268_435_456;
+
 /// The greatest radius of a range search.
 pub const RADIUS_LIMIT: u64 = 2_147_483_647;
 
@@ -25,6 +28,3 @@ pub const NUMBER_LIMIT: u64 = 9_223_372_036_854_775_807;
 
 /// The bytes of one piece of a reply. The last piece of a reply may be shorter.
 pub const PIECE: usize = 8_192;
-
-#[cfg(test)]
-mod tests;

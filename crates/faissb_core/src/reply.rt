@@ -4,6 +4,7 @@ mod outgoing;
 mod refusal;
 mod reply;
 mod send;
+mod shown;
 mod text;
 
 pub use factory_word::FactoryWord;

@@ -6,6 +6,3 @@ mod status;
 
 pub use script::run;
 pub use status::{Status, usage};
-
-#[cfg(test)]
-mod tests;

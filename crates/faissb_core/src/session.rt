@@ -4,8 +4,10 @@ mod halt;
 mod new;
 mod queries;
 mod read_codes;
+mod removing;
 mod session;
 mod settings;
+mod shard_group;
 mod stop;
 
 pub use session::Session;

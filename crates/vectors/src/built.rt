@@ -187,3 +187,46 @@ fn an_index_is_full_at_its_load_limit(rt: HostRuntime) -> Result<(), Fail> {
                    added 2 total 16348\nrefused load\n";
     check(&rt, rt.alloc(), script.as_bytes(), replies, Status::Refused)
 }
+
+// Shards of one code each, all equal but the last.
+#[test]
+fn two_hundred_shards_are_searched_as_one(rt: HostRuntime) -> Result<(), Fail> {
+    let mut script = String::new(rt.alloc());
+    let mut replies = String::new(rt.alloc());
+    for i in 1..=200 {
+        let code = if i == 200 { "00" } else { "01" };
+        script.push_str(&format!(in rt.alloc(); "new 8 BFlat\nadd {code}\nshard\n")?)?;
+        replies.push_str(&format!(in rt.alloc(); "ok\nadded 1 total 1\nshards {i} total {i}\n")?)?;
+    }
+    script.push_str("shardsearch 3 00\nshardrange 1 00\nshardsearch 1 ff\n")?;
+    replies.push_str(
+        "hits 3 looked 200 exact\n199 0\n0 1\n1 1\nhits 1 looked 200 exact\n199 0\n\
+         hits 1 looked 200 exact\n0 7\n",
+    )?;
+    check(
+        &rt,
+        rt.alloc(),
+        script.as_bytes(),
+        replies.as_str(),
+        Status::Fine,
+    )
+}
+
+// Every second of 100,000 codes leaves; those of ones stay.
+#[test]
+fn every_second_code_is_removed(rt: HostRuntime) -> Result<(), Fail> {
+    let codes = " 00 ff".repeat(rt.alloc(), 50_000)?;
+    let mut even = String::from_str(rt.alloc(), " 0 2 4 6 8")?;
+    for ten in 1..10_000 {
+        even.push_str(&format!(in rt.alloc(); " {ten}0 {ten}2 {ten}4 {ten}6 {ten}8")?)?;
+    }
+    let script = format!(in rt.alloc();
+        "new 8 BFlat\nadd{codes}\nremove{even}\nsearch 2 00\nadd 01 00\nsearch 2 00\n\
+         keep 50001 49999\nsearch 3 00\nremoverange 0 2\nsearch 1 00\n"
+    )?;
+    let replies = "ok\nadded 100000 total 100000\nremoved 50000 total 50000\n\
+                   hits 2 looked 50000 exact\n0 8\n1 8\nadded 2 total 50002\n\
+                   hits 2 looked 50002 exact\n50001 0\n50000 1\nremoved 50000 total 2\n\
+                   hits 2 looked 2 exact\n1 0\n0 8\nremoved 2 total 0\nhits 0 looked 0 exact\n";
+    check(&rt, rt.alloc(), script.as_bytes(), replies, Status::Fine)
+}

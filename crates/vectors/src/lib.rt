@@ -7,8 +7,12 @@
 #[cfg(test)]
 mod built;
 #[cfg(test)]
+mod devices;
+#[cfg(test)]
 mod row;
 #[cfg(test)]
 mod rows;
 #[cfg(test)]
 mod runs;
+#[cfg(test)]
+mod session;

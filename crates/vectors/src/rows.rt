@@ -1,6 +1,7 @@
 // Scripts of a few lines, by what they are about.
 mod codes;
 mod factories;
+mod growing;
 mod hashes;
 mod ids;
 mod indexes;
@@ -10,7 +11,10 @@ mod maps;
 mod numbers;
 mod queries;
 mod refusals;
+mod removals;
 mod sessions;
+mod shards;
+mod shows;
 
 use crate::row::check_rows;
 use std::test::Fail;
@@ -20,6 +24,7 @@ fn rows_are_answered(rt: HostRuntime) -> Result<(), Fail> {
     for rows in [
         codes::ROWS.as_slice(),
         factories::ROWS.as_slice(),
+        growing::ROWS.as_slice(),
         hashes::ROWS.as_slice(),
         ids::ROWS.as_slice(),
         indexes::ROWS.as_slice(),
@@ -29,7 +34,10 @@ fn rows_are_answered(rt: HostRuntime) -> Result<(), Fail> {
         numbers::ROWS.as_slice(),
         queries::ROWS.as_slice(),
         refusals::ROWS.as_slice(),
+        removals::ROWS.as_slice(),
         sessions::ROWS.as_slice(),
+        shards::ROWS.as_slice(),
+        shows::ROWS.as_slice(),
     ] {
         check_rows(&rt, rt.alloc(), rows)?;
     }

@@ -1,6 +1,6 @@
 -- Lemmas on the names of commands and the words that follow them.
 use Rattle.std.proofs.Common.{◌≡◌, ℕ, ◌<◌, List, [], ◌∷◌, ◌++◌, length, map, Bool, true, false, not, ◌&&◌, ◌||◌, eqb, cond}
-use Rattle.std.proofs.Common.{Option, Some, None, refl, ap, ◌∙◌, arith}
+use Rattle.std.proofs.Common.{Option, Some, None, refl, ap, ◌∙◌, arith, ℤ}
 use Rattle.std.specs.Prelude.{codes, is_none}
 use Rattle.std.specs.List.{list_all, list_any}
 use Rattle.std.specs.Str.{bytes_eq}
@@ -8,11 +8,12 @@ use Rattle.std.specs.Option.{option_map}
 use Rattle.std.proofs.lemmas.Bool.{and_parts}
 use Rattle.std.proofs.lemmas.List.Splits.{length-slice_split}
 use Rattle.std.proofs.lemmas.Slice.Eq.{bytes_eq-Decides}
-use Rattle.faissb_core.specs.Language.Words.{Word, words_of, number, word, id_and_word, switch}
-use Rattle.faissb_core.specs.Language.Command.{Command, Change, Ask, IndexChange, Add, AddIds, Centroids, DirectMap}
-use Rattle.faissb_core.specs.Language.Command.{IndexQuestion}
-use Rattle.faissb_core.specs.Language.Grammar.{Entry, one, two, each_word, one_or_more, under, named, changes, questions}
-use Rattle.faissb_core.specs.Language.Grammar.{others, grammar, command_of}
+use Rattle.faissb_core.specs.Language.Words.{Word, words_of, number, word, id, id_and_word, switch}
+use Rattle.id_select.specs.declared.selector.Selector.TheVariants.{Listed, AllBut}
+use Rattle.faissb_core.specs.Language.Command.{Command, Shard, Unshard, Change, Ask, AskShards, IndexChange, Add, AddIds}
+use Rattle.faissb_core.specs.Language.Command.{Centroids, DirectMap, Remove, IndexQuestion, Show, ShardQuestion}
+use Rattle.faissb_core.specs.Language.Grammar.{Entry, alone, one, two, each_word, one_or_more, under, named, changes, questions}
+use Rattle.faissb_core.specs.Language.Grammar.{shard_questions, others, grammar}
 
 -- ---- forms
 
@@ -32,14 +33,20 @@ switch_and_more first more = two_words switch DirectMap first (words_of more)
     (omega (arith, length-slice_split (λ b. eqb b 32) more))
 
 -- more than two words
-three_words : {C : Type 0} (command : ℕ → List ℕ → C) (first second : List ℕ) (more : List (List ℕ))
-    → 0 < length more → two number word command (first ∷ second ∷ more) ≡ None
-three_words command first second [] some = absurd (omega arith)
-three_words command first second (third ∷ more) some = refl
+three_words : {A B C : Type 0} (reads_first : Word → Option A) (reads_second : Word → Option B) (command : A → B → C)
+    (first second : List ℕ) (more : List (List ℕ))
+    → 0 < length more → two reads_first reads_second command (first ∷ second ∷ more) ≡ None
+three_words reads_first reads_second command first second [] some = absurd (omega arith)
+three_words reads_first reads_second command first second (third ∷ more) some = refl
 
 pub more_than_two : {C : Type 0} (command : ℕ → List ℕ → C) (first second more : List ℕ)
     → two number word command (first ∷ second ∷ words_of more) ≡ None
-more_than_two command first second more = three_words command first second (words_of more)
+more_than_two command first second more = three_words number word command first second (words_of more)
+    (omega (arith, length-slice_split (λ b. eqb b 32) more))
+
+pub more_than_two_ids : {C : Type 0} (command : ℤ → ℤ → C) (first second more : List ℕ)
+    → two id id command (first ∷ second ∷ words_of more) ≡ None
+more_than_two_ids command first second more = three_words id id command first second (words_of more)
     (omega (arith, length-slice_split (λ b. eqb b 32) more))
 
 -- a line with words has some
@@ -68,6 +75,16 @@ centroids_of_words words = words_in word Centroids words ∙ ap (option_map Cent
 pub add_ids_of_words : (words : List ℕ)
     → one_or_more id_and_word AddIds (words_of words) ≡ option_map AddIds (each_word id_and_word (words_of words))
 add_ids_of_words words = words_in id_and_word AddIds words
+
+pub remove_of_words : (words : List ℕ)
+    → one_or_more id (λ ids. Remove (Listed ids)) (words_of words)
+    ≡ option_map (λ ids. Remove (Listed ids)) (each_word id (words_of words))
+remove_of_words words = words_in id (λ ids. Remove (Listed ids)) words
+
+pub keep_of_words : (words : List ℕ)
+    → one_or_more id (λ ids. Remove (AllBut ids)) (words_of words)
+    ≡ option_map (λ ids. Remove (AllBut ids)) (each_word id (words_of words))
+keep_of_words words = words_in id (λ ids. Remove (AllBut ids)) words
 
 -- ---- names
 
@@ -141,42 +158,124 @@ module _ {C D : Type 0} (theirs : List (Entry D)) (name : Word) (words : List Wo
       pick_apart e (bytes_eq name e.name) (are_apart entries theirs) (e.form words) (named entries (name ∷ words))
       command (bytes_eq-Decides name e.name).0 (not_theirs entries command) are is
 
+module _ (more : List (Entry Command)) (name : Word) (words : List Word) where
+  skip_one : (test among : Bool) (a b c : Option Command) → (among ≡ false → b ≡ c) → (test || among) ≡ false
+      → cond test a b ≡ c
+  skip_one true among a b c rest is = absurd cc
+  skip_one false among a b c rest is = rest is
+
+  -- a name that the first entries have not
+  named_past : (entries : List (Entry Command)) → is_among name entries ≡ false
+      → named (entries ++ more) (name ∷ words) ≡ named more (name ∷ words)
+  named_past [] not_among = refl
+  named_past (e ∷ entries) not_among =
+      skip_one (bytes_eq name e.name) (is_among name entries) (e.form words) _ _ (named_past entries) not_among
+
+-- the groups of commands
+abbrev behind_questions : List (Entry Command)
+behind_questions = map (under AskShards) shard_questions
+
+abbrev behind_changes : List (Entry Command)
+behind_changes = map (under Ask) questions ++ map (under AskShards) shard_questions
+
+abbrev behind_others : List (Entry Command)
+behind_others = map (under Change) changes ++ map (under Ask) questions ++ map (under AskShards) shard_questions
+
 -- the name of a change
-pub change_is : (name : Word) (words : List Word) (c : IndexChange) → bytes_eq name (codes "new") ≡ false
+pub change_is : (name : Word) (words : List Word) (c : IndexChange)
     → named changes (name ∷ words) ≡ Some c → named grammar (name ∷ words) ≡ Some (Change c)
-change_is name words c other is =
-    rw other (named_first Change (map (under Ask) questions) name words changes c is)
+change_is name words c is =
+    named_past behind_others name words others (not_theirs others name words changes c refl is)
+    ∙ named_first Change behind_changes name words changes c is
 
 -- the name of a question
-pub question_is : (name : Word) (words : List Word) (q : IndexQuestion) → bytes_eq name (codes "new") ≡ false
+pub question_is : (name : Word) (words : List Word) (q : IndexQuestion)
     → named questions (name ∷ words) ≡ Some q → named grammar (name ∷ words) ≡ Some (Ask q)
-question_is name words q other is =
-    let behind = named_behind Change (map (under Ask) questions) name words changes
-    (not_theirs changes name words questions q refl is) in
-    rw other (behind ∙ named_first Ask [] name words questions q is)
+question_is name words q is =
+    named_past behind_others name words others (not_theirs others name words questions q refl is)
+    ∙ named_behind Change behind_changes name words changes (not_theirs changes name words questions q refl is)
+    ∙ named_first Ask behind_questions name words questions q is
+
+-- the name of a question to the shards
+pub shard_question_is : (name : Word) (words : List Word) (q : ShardQuestion)
+    → named shard_questions (name ∷ words) ≡ Some q → named grammar (name ∷ words) ≡ Some (AskShards q)
+shard_question_is name words q is =
+    named_past behind_others name words others (not_theirs others name words shard_questions q refl is)
+    ∙ named_behind Change behind_changes name words changes (not_theirs changes name words shard_questions q refl is)
+    ∙ named_behind Ask behind_questions name words questions (not_theirs questions name words shard_questions q refl is)
+    ∙ named_first AskShards [] name words shard_questions q is
+
+-- two names that stand alone, before what is none
+both_none : (first second : Bool) (rest : Option Command) → rest ≡ None → cond first None (cond second None rest) ≡ None
+both_none true second rest is = refl
+both_none false true rest is = refl
+both_none false false rest is = is
+
+none_behind : (name : Word) (words : List Word) (more : List (Entry Command)) → bytes_eq name (codes "new") ≡ false
+    → 0 < length words → named more (name ∷ words) ≡ None → named (others ++ more) (name ∷ words) ≡ None
+none_behind name [] more other some none = absurd (omega arith)
+none_behind name (w ∷ words) more other some none =
+    rw other (both_none (bytes_eq name (codes "shard")) (bytes_eq name (codes "unshard"))
+    (named more (name ∷ w ∷ words)) none)
 
 -- another name
-pub neither_is : (name : Word) (words : List Word) → bytes_eq name (codes "new") ≡ false
-    → named changes (name ∷ words) ≡ None → named questions (name ∷ words) ≡ None
-    → named grammar (name ∷ words) ≡ None
-neither_is name words other no_change no_question =
-    rw other (named_none Change (map (under Ask) questions) name words changes no_change
-    (named_none Ask [] name words questions no_question refl))
+pub neither_is : (name : Word) (words : List ℕ) → bytes_eq name (codes "new") ≡ false
+    → named changes (name ∷ words_of words) ≡ None → named questions (name ∷ words_of words) ≡ None
+    → named shard_questions (name ∷ words_of words) ≡ None → named grammar (name ∷ words_of words) ≡ None
+neither_is name words other no_change no_question no_shards =
+    none_behind name (words_of words) behind_others other (omega (arith, length-slice_split (λ b. eqb b 32) words))
+    (named_none Change behind_changes name (words_of words) changes no_change
+    (named_none Ask behind_questions name (words_of words) questions no_question
+    (named_none AskShards [] name (words_of words) shard_questions no_shards refl)))
 
--- a name alone is no command
+-- no words alone
+alone_none : {C : Type 0} (c : C) (words : List Word) → 0 < length words → alone c words ≡ None
+alone_none c [] some = absurd (omega arith)
+alone_none c (w ∷ words) some = refl
+
+same_either : {C : Type 0} (test : Bool) (a : Option C) → a ≡ None → cond test a None ≡ None
+same_either true a is = is
+same_either false a is = refl
+
+pub last_question : (name : Word) (words : List ℕ) → bytes_eq name (codes "search") ≡ false
+    → bytes_eq name (codes "range") ≡ false → bytes_eq name (codes "nearest") ≡ false
+    → bytes_eq name (codes "reconstruct") ≡ false → named questions (name ∷ words_of words) ≡ None
+last_question name words search range nearest reconstruct =
+    rw (search, range, nearest, reconstruct)
+    (same_either (bytes_eq name (codes "show")) (alone Show (words_of words))
+    (alone_none Show (words_of words) (omega (arith, length-slice_split (λ b. eqb b 32) words))))
+
+-- ---- names alone
+
+pub shard_alone : (name : List ℕ) → bytes_eq name (codes "shard") ≡ true → named grammar (name ∷ []) ≡ Some Shard
+shard_alone name is = rw ((bytes_eq-Decides name (codes "shard")).0 is) refl
+
+pub unshard_alone : (name : List ℕ) → bytes_eq name (codes "unshard") ≡ true → named grammar (name ∷ []) ≡ Some Unshard
+unshard_alone name is = rw ((bytes_eq-Decides name (codes "unshard")).0 is) refl
+
+pub show_alone : (name : List ℕ) → bytes_eq name (codes "show") ≡ true → named grammar (name ∷ []) ≡ Some (Ask Show)
+show_alone name is = rw ((bytes_eq-Decides name (codes "show")).0 is) refl
+
+-- no entry of this name stands alone
+abbrev needs_words : {C : Type 0} → Word → Entry C → Bool
+needs_words name e = is_none (e.form []) || not (bytes_eq name e.name)
+
 pick_alone : {C : Type 0} (test rest : Bool) (a b : Option C) → (rest ≡ true → b ≡ None)
-    → (is_none a && rest) ≡ true → cond test a b ≡ None
+    → ((is_none a || not test) && rest) ≡ true → cond test a b ≡ None
 pick_alone true true None b behind are = refl
 pick_alone true false None b behind are = absurd cc
-pick_alone test rest (Some a) b behind are = absurd cc
+pick_alone true rest (Some a) b behind are = absurd cc
+pick_alone false rest (Some a) b behind are = behind are
 pick_alone false rest None b behind are = behind are
 
 none_alone : {C : Type 0} (entries : List (Entry C)) (name : Word)
-    → list_all (λ e. is_none (e.form [])) entries ≡ true → named entries (name ∷ []) ≡ None
+    → list_all (λ e. needs_words name e) entries ≡ true → named entries (name ∷ []) ≡ None
 none_alone [] name are = refl
 none_alone (e ∷ entries) name are =
-    pick_alone (bytes_eq name e.name) (list_all (λ e. is_none (e.form [])) entries) (e.form []) _
+    pick_alone (bytes_eq name e.name) (list_all (λ e. needs_words name e) entries) (e.form []) _
     (none_alone entries name) are
 
-pub name_alone : (name : List ℕ) → command_of (name ∷ []) ≡ None
-name_alone name = none_alone grammar name refl
+-- another name alone is no command
+pub no_name_alone : (name : List ℕ) → bytes_eq name (codes "shard") ≡ false → bytes_eq name (codes "unshard") ≡ false
+    → bytes_eq name (codes "show") ≡ false → named grammar (name ∷ []) ≡ None
+no_name_alone name shard unshard show = none_alone grammar name (rw (shard, unshard, show) refl)

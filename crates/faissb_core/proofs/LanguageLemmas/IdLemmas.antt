@@ -11,7 +11,7 @@ use Rattle.std.specs.List.{All}
 use Rattle.std.proofs.lemmas.Bool.{eqb-true}
 use Rattle.faissb_core.specs.Language.Words.{Word, IdWord, words_of, word, id, id_before}
 use Rattle.faissb_core.specs.Language.Words.{id_and_word}
-use Rattle.faissb_core.specs.Language.Grammar.{each_word, pairs_in}
+use Rattle.faissb_core.specs.Language.Grammar.{each_word, ids_in, pairs_in}
 
 -- ---- the first colon
 
@@ -82,6 +82,10 @@ pub some_pairs : (words : List ℕ)
     → is_some (each_word id_and_word (words_of words)) ≡ list_all (λ w. is_some (id_and_word w)) (words_of words)
 some_pairs words = some_each id_and_word (words_of words)
 
+pub some_ids : (words : List ℕ)
+    → is_some (each_word id (words_of words)) ≡ list_all (λ w. is_some (id w)) (words_of words)
+some_ids words = some_each id (words_of words)
+
 unwrapped : {A : Type 0} (found : Option (List A)) → is_some found ≡ true → found ≡ Some (unwrap_or found [])
 unwrapped (Some xs) is = refl
 unwrapped None is = absurd cc
@@ -98,19 +102,43 @@ pub pairs_are_not : (words : List ℕ) → list_all (λ w. is_some (id_and_word 
     → None ≡ each_word id_and_word (words_of words)
 pairs_are_not words are = sym (none_is (each_word id_and_word (words_of words)) (some_pairs words ∙ are))
 
+pub ids_are : (words : List ℕ) → list_all (λ w. is_some (id w)) (words_of words) ≡ true
+    → Some (ids_in words) ≡ each_word id (words_of words)
+ids_are words are = sym (unwrapped (each_word id (words_of words)) (some_ids words ∙ are))
+
+pub ids_are_not : (words : List ℕ) → list_all (λ w. is_some (id w)) (words_of words) ≡ false
+    → None ≡ each_word id (words_of words)
+ids_are_not words are = sym (none_is (each_word id (words_of words)) (some_ids words ∙ are))
+
+-- the first id, and those behind it
+pub record IsFirstId (text : List ℕ) (i : Option ℤ) (words : List Word) : Type 0 where
+  pub some : is_some i ≡ true
+  pub rest : is_some (each_word id words) ≡ true
+  pub ids : (n : ℤ) → i ≡ Some n → ids_in text ≡ n ∷ unwrap_or (each_word id words) []
+
 -- the first pair, and those behind it
 pub record IsFirstPair (text : List ℕ) (pair : Option IdWord) (words : List Word) : Type 0 where
   pub some : is_some pair ≡ true
   pub rest : is_some (each_word id_and_word words) ≡ true
   pub pairs : (p : IdWord) → pair ≡ Some p → pairs_in text ≡ p ∷ unwrap_or (each_word id_and_word words) []
 
-first_is : (pair : Option IdWord) (rest : Option (List IdWord))
-    → is_some (option_and_then (λ a. option_map (λ more. a ∷ more) rest) pair) ≡ true
-    → (is_some pair ≡ true) × (is_some rest ≡ true) × ((p : IdWord) → pair ≡ Some p
-    → unwrap_or (option_and_then (λ a. option_map (λ more. a ∷ more) rest) pair) [] ≡ p ∷ unwrap_or rest [])
-first_is (Some a) (Some more) is = (refl, refl, λ p same. ap (λ (x : IdWord). x ∷ more) (cc))
+first_is : {A : Type 0} (first : Option A) (rest : Option (List A))
+    → is_some (option_and_then (λ a. option_map (λ more. a ∷ more) rest) first) ≡ true
+    → (is_some first ≡ true) × (is_some rest ≡ true) × ((p : A) → first ≡ Some p
+    → unwrap_or (option_and_then (λ a. option_map (λ more. a ∷ more) rest) first) [] ≡ p ∷ unwrap_or rest [])
+first_is (Some a) (Some more) is = (refl, refl, λ p same. ap (λ x. x ∷ more) (cc))
 first_is (Some a) None is = absurd cc
 first_is None rest is = absurd cc
+
+pub first_id : (text word : List ℕ) (words : List Word) → words_of text ≡ word ∷ words
+    → is_some (each_word id (words_of text)) ≡ true → IsFirstId text (id word) words
+first_id text word words are is =
+    let first = first_is (id word) (each_word id words) (rw are at is) in
+    record {
+      some = first.0;
+      rest = first.1;
+      ids = λ n same. ap (λ ws. unwrap_or (each_word id ws) []) are ∙ first.2 n same;
+    }
 
 pub first_pair : (text word : List ℕ) (words : List Word) → words_of text ≡ word ∷ words
     → is_some (each_word id_and_word (words_of text)) ≡ true → IsFirstPair text (id_and_word word) words

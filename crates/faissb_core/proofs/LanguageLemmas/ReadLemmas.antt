@@ -12,10 +12,12 @@ use Rattle.std.proofs.lemmas.Int.{ints}
 use Rattle.std.proofs.lemmas.List.Elements.{All-nil, All-cons}
 use Rattle.faissb_core.specs.Language.Words.{Word, IdWord, words_of, is_word, word, number, switch, id, id_before}
 use Rattle.faissb_core.specs.Language.Words.{id_and_word, positive_id, negative_id}
-use Rattle.faissb_core.specs.Language.Command.{Command, New, Change, Ask, IndexChange, Add, AddIds, Centroids, Nprobe}
-use Rattle.faissb_core.specs.Language.Command.{Nflip, MaxCodes, DirectMap}
-use Rattle.faissb_core.specs.Language.Grammar.{Entry, one, two, each_word, one_or_more, under, named, changes}
-use Rattle.faissb_core.specs.Language.Grammar.{questions, grammar, command_of}
+use Rattle.faissb_core.specs.Language.Command.{Command, New, Shard, Unshard, Change, Ask, IndexChange, Add, AddIds}
+use Rattle.faissb_core.specs.Language.Command.{Centroids, Nprobe}
+use Rattle.id_select.specs.declared.selector.Selector.TheVariants.{Listed, AllBut, Between}
+use Rattle.faissb_core.specs.Language.Command.{Nflip, MaxCodes, DirectMap, Remove, AskShards}
+use Rattle.faissb_core.specs.Language.Grammar.{Entry, alone, one, two, each_word, one_or_more, under, named, changes}
+use Rattle.faissb_core.specs.Language.Grammar.{questions, shard_questions, grammar, command_of}
 use Rattle.faissb_core.specs.Language.Lines.{Line, TooLong, Silent, Whole, Broken, is_silent, line_with, line_limit}
 use Rattle.faissb_core.specs.Language.Lines.{line_of}
 
@@ -148,11 +150,23 @@ more_made : {A : Type 0} (reads : Word → Option A) (f : List A → IndexChange
 more_made reads f each [] = tt
 more_made reads f each (w ∷ words) = made f (each_word reads (w ∷ words)) (each (w ∷ words))
 
+both_made : (f : ℤ → ℤ → IndexChange) → ((a b : ℤ) → IsReadChange (f a b)) → (first second : Option ℤ)
+    → OnSome IsReadChange (option_and_then (λ a. option_map (f a) second) first)
+both_made f each (Some a) second = made (f a) second (λ b is. each a b)
+both_made f each None second = tt
+
 one_made : {A : Type 0} (reads : Word → Option A) (f : A → IndexChange) → ((a : A) → IsReadChange (f a))
     → (words : List Word) → OnSome IsReadChange (one reads f words)
 one_made reads f each [] = tt
 one_made reads f each (w ∷ []) = made f (reads w) (λ a is. each a)
 one_made reads f each (w ∷ x ∷ words) = tt
+
+two_made : (f : ℤ → ℤ → IndexChange) → ((a b : ℤ) → IsReadChange (f a b))
+    → (words : List Word) → OnSome IsReadChange (two id id f words)
+two_made f each [] = tt
+two_made f each (w ∷ []) = tt
+two_made f each (v ∷ w ∷ []) = both_made f each (id v) (id w)
+two_made f each (v ∷ w ∷ x ∷ words) = tt
 
 all_changes : All_make IsReadChange changes
 all_changes = (
@@ -167,7 +181,16 @@ all_changes = (
           one_made number Nflip (λ n. tt),
           (
             one_made number MaxCodes (λ n. tt),
-            (one_made switch DirectMap (λ on. tt), tt),
+            (
+              one_made switch DirectMap (λ on. tt),
+              (
+                more_made id (λ ids. Remove (Listed ids)) (λ words xs is. tt),
+                (
+                  more_made id (λ ids. Remove (AllBut ids)) (λ words xs is. tt),
+                  (two_made (λ from to. Remove (Between from to)) (λ a b. tt), tt),
+                ),
+              ),
+            ),
           ),
         ),
       ),
@@ -185,11 +208,24 @@ news_made (v ∷ []) = tt
 news_made (v ∷ w ∷ []) = new_made (number v) w
 news_made (v ∷ w ∷ x ∷ words) = tt
 
+alone_made : (c : Command) → IsReadCommand c → (words : List Word) → OnSome IsReadCommand (alone c words)
+alone_made c is [] = is
+alone_made c is (w ∷ words) = tt
+
 all_made : All_make IsReadCommand grammar
 all_made = (
   news_made,
-  all_under IsReadCommand IsReadChange Change changes (map (under Ask) questions) (λ c is. is) all_changes
-      (all_under IsReadCommand (λ _. Unit {0}) Ask questions [] (λ q is. tt) (all_any questions) tt),
+  (
+    alone_made Shard tt,
+    (
+      alone_made Unshard tt,
+      all_under IsReadCommand IsReadChange Change changes
+          (map (under Ask) questions ++ map (under AskShards) shard_questions) (λ c is. is) all_changes
+          (all_under IsReadCommand (λ _. Unit {0}) Ask questions (map (under AskShards) shard_questions) (λ q is. tt)
+          (all_any questions)
+          (all_under IsReadCommand (λ _. Unit {0}) AskShards shard_questions [] (λ q is. tt) (all_any shard_questions) tt)),
+    ),
+  ),
 )
 
 line_with_read : (command : Option Command) → OnSome IsReadCommand command → IsReadLine (line_with command)

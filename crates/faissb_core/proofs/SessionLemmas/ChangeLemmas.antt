@@ -1,7 +1,7 @@
 -- An index stays legal where rows or centroids are added, or a setting is changed.
-use Rattle.std.proofs.Common.{◌≡◌, ℕ, zero, suc, ◌+◌, ◌*◌, ◌/◌, ◌^◌, ◌<◌, ◌≤◌, ℤ, pos, FitsSigned, w64, nat_abs}
-use Rattle.std.proofs.Common.{Bool, true, false, not, List, [], ◌∷◌, ◌++◌, length, get_or, map, Some}
-use Rattle.std.proofs.Common.{refl, sym, ap, ◌∙◌, subst, arith, length-append, zero-add}
+use Rattle.std.proofs.Common.{◌≡◌, ℕ, zero, suc, ◌+◌, ◌^◌, ◌<◌, ◌≤◌, ℤ, pos, FitsSigned, w64, nat_abs}
+use Rattle.std.proofs.Common.{Bool, true, false, not, List, [], ◌∷◌, ◌++◌, length, map, Some}
+use Rattle.std.proofs.Common.{refl, sym, ap, ◌∙◌, subst, arith, length-append}
 use Rattle.std.specs.List.{All}
 use Rattle.std.proofs.lemmas.Bool.{leb-true}
 use Rattle.std.proofs.lemmas.Int.{ints}
@@ -11,15 +11,15 @@ use Rattle.bcodes.specs.declared.hit.Hit.{Hit}
 use Rattle.bcodes.specs.Ranges.{load_limit}
 use Rattle.bcodes.specs.Hits.{no_hit}
 use Rattle.bcodes.specs.Value.{Row, ListRow, IvfValue, Inner, Flat, Ivf, Hash, Multi, IndexValue, Bare, IdMap}
-use Rattle.bcodes.specs.Value.{IsCode, IsRow, IsListRow, IsPlace, IsNumbering, IsLegal, IsLegalInner, IsLegalIvf}
-use Rattle.bcodes.specs.Value.{dim_of, dim_of_inner, count_of, count_of_inner, rows_of_inner, row_of, numbered}
+use Rattle.bcodes.specs.Value.{IsCode, IsRow, IsListRow, IsNumbering, IsLegal, IsLegalInner, IsLegalIvf}
+use Rattle.bcodes.specs.Value.{dim_of, dim_of_inner, count_of, count_of_inner, numbered}
 use Rattle.bcodes.specs.Value.{labels_from, is_trained, is_trained_inner, takes_ids, takes_ids_inner}
-use Rattle.bcodes.specs.Value.{load_of, load_of_inner, weight}
+use Rattle.bcodes.specs.Value.{load_of, load_of_inner}
 use Rattle.bcodes.specs.Settings.{ivf_in, with_ivf, key_bits, with_nflip, with_nflip_inner}
 use Rattle.bcodes.specs.Answers.{added_inner, after_add, after_centroids, nearest, onto_nearest, paired}
 use Rattle.bcodes.specs.Answers.{hit_of, ranked_rows}
 use Rattle.bcodes.proofs.OrderLemmas.{length-in_order}
-use Rattle.bcodes.proofs.NumberedLemmas.{length-numbered, get-numbered, numbered-append}
+use Rattle.bcodes.proofs.NumberedLemmas.{length-numbered}
 use Rattle.id_map.proofs.RowLemmas.{added as mapped_rows, few_added, after_add_bare}
 use Rattle.ivf_index.proofs.NearLemmas.{ranked_are}
 use Rattle.ivf_index.proofs.NumberingLemmas.{numbering_grown}

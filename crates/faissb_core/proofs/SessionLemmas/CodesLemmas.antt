@@ -3,9 +3,10 @@ use Rattle.std.proofs.Common.{◌≡◌, ℕ, suc, Option, Some, None, Ok, Err, 
 use Rattle.std.proofs.Common.{ap, ◌∙◌}
 use Rattle.std.proofs.lemmas.List.{append_assoc, append-nil}
 use Rattle.faissb_core.specs.declared.language.id_words.IdWords.{IdWords}
+use Rattle.faissb_core.specs.declared.language.ids.Ids.{Ids}
 use Rattle.faissb_core.specs.declared.reply.refusal.Refusal.{Refusal}
 use Rattle.faissb_core.specs.Language.Words.{Word, IdWord, words_of}
-use Rattle.faissb_core.specs.Language.Grammar.{pairs_in}
+use Rattle.faissb_core.specs.Language.Grammar.{ids_in, pairs_in}
 use Rattle.faissb_core.specs.Machine.Checked.{Checked, ◌>>=◌}
 use Rattle.faissb_core.specs.Machine.State.{code_of, codes_of}
 
@@ -27,6 +28,15 @@ pairs_left (Some words) = pairs_in words.text.now
 abbrev pub pairs_text_left : Option IdWords → ℕ
 pairs_text_left None = 0
 pairs_text_left (Some words) = suc (length words.text.now)
+
+-- the ids that are left, and the bytes of their text
+abbrev pub ids_left : Option Ids → List ℤ
+ids_left None = []
+ids_left (Some words) = ids_in words.text.now
+
+abbrev pub ids_text_left : Option Ids → ℕ
+ids_text_left None = 0
+ids_text_left (Some words) = suc (length words.text.now)
 
 -- codes behind others
 abbrev pub behind : List (List ℕ) → Checked (List (List ℕ)) → Checked (List (List ℕ))
@@ -67,6 +77,12 @@ pub ids_step : (all first : List ℤ) (left : List IdWord) (pair : IdWord) (pair
 ids_step all first left pair pairs so_far is =
     so_far ∙ ap (λ (ps : List IdWord). first ++ map (λ (p : IdWord). p.id) ps) is
     ∙ sym (append_assoc first (pair.id ∷ []) (map (λ (p : IdWord). p.id) pairs))
+
+-- one of some ids more
+pub id_step : (all first left : List ℤ) (id : ℤ) (more : List ℤ) → all ≡ first ++ left → left ≡ id ∷ more
+    → all ≡ (first ++ id ∷ []) ++ more
+id_step all first left id more so_far is =
+    so_far ∙ ap (λ (l : List ℤ). first ++ l) is ∙ sym (append_assoc first (id ∷ []) more)
 
 pub ids_end : (all first : List ℤ) → all ≡ first ++ [] → all ≡ first
 ids_end all first so_far = so_far ∙ append-nil first

@@ -1,40 +1,46 @@
 -- Each step leads from a legal state to a legal one.
 use Rattle.std.proofs.Common.{◌≡◌, ℕ, suc, ◌+◌, ◌-◌, ◌*◌, ◌^◌, ◌<◌, ◌≤◌, ℤ, FitsSigned, w64, Bool, true, false, not}
 use Rattle.std.proofs.Common.{◌||◌, nat_le, nat_lt, Some, is_some, Result, Ok, Err}
-use Rattle.std.proofs.Common.{List, [], ◌∷◌, length, map, refl, sym, ap, ◌∙◌, subst, arith}
-use Rattle.std.specs.List.{All}
+use Rattle.std.proofs.Common.{List, [], ◌∷◌, ◌++◌, length, map, sum_by, refl, sym, ap, ◌∙◌, subst, arith}
+use Rattle.std.specs.List.{All, list_all}
 use Rattle.std.specs.Result.{result_ok}
-use Rattle.std.proofs.lemmas.Bool.{and_parts, leb-true, ltb-true}
+use Rattle.std.proofs.lemmas.Bool.{and_parts, eq-eqb, leb-true, ltb-true}
 use Rattle.std.proofs.lemmas.List.{get_or_default, length-map}
-use Rattle.std.proofs.lemmas.List.Elements.{All-nil, All-cons}
+use Rattle.std.proofs.lemmas.List.Elements.{All-nil, All-cons, All-append}
 use Rattle.hex.specs.declared.error.FromHexError.{FromHexError}
 use Rattle.hex.specs.Hex.{decode_sized}
 use Rattle.hex.proofs.HexLemmas.{decode_sized-ok, decode_sized-twice, decode_of-ok}
 use Rattle.std.specs.Result.{IfOk}
 use Rattle.bcodes.specs.Ranges.{is_dim, load_limit}
-use Rattle.bcodes.specs.Value.{ListRow, IndexValue, HasBytes, IsLegal, IsNumbering}
+use Rattle.bcodes.specs.Value.{ListRow, Flat, Ivf, Hash, Multi, IndexValue, Bare, IdMap, HasBytes, IsLegal, IsNumbering}
 use Rattle.bcodes.specs.Value.{code_size, count_of, is_trained, labels_from, load_of, takes_ids}
 use Rattle.bcodes.specs.Settings.{ivf_in, key_bits, needs_ids, is_numbering}
 use Rattle.bcodes.specs.Answers.{after_add, after_centroids}
 use Rattle.bcodes.proofs.NumberedLemmas.{length-labels_from}
 use Rattle.factory_text.specs.Printing.{fits}
 use Rattle.factory_text.specs.Reading.{read_spec}
+use Rattle.id_select.specs.Removal.{removed}
+use Rattle.id_select.proofs.LegalLemmas.{removed_legal}
+use Rattle.shard_set.specs.Joined.{is_alike}
+use Rattle.shard_set.proofs.AlikeLemmas.{are_alike_push}
 use Rattle.any_index.proofs.LoadLemmas.{few_after_add}
 use Rattle.outside.specs.Contents.{Files}
 use Rattle.faissb_core.specs.declared.reply.refusal.Refusal.TheVariants.{Code, Dim, Factory, Ids, Kind, Value, Full, Untrained}
-use Rattle.faissb_core.specs.declared.reply.refusal.Refusal.TheVariants.{Load, NoIndex, Sequential}
+use Rattle.faissb_core.specs.declared.reply.refusal.Refusal.TheVariants.{Load, NoIndex, Sequential, Mismatch}
 use Rattle.faissb_core.specs.declared.reply.factory_word.FactoryWord.TheVariants.{Misfit}
 use Rattle.faissb_core.specs.Language.Words.{Word, IdWord}
-use Rattle.faissb_core.specs.Language.Command.{Command, New, Change, Ask, IndexChange, Add, AddIds, Centroids}
-use Rattle.faissb_core.specs.Language.Command.{Nprobe, Nflip, MaxCodes, DirectMap}
-use Rattle.faissb_core.specs.Language.Lines.{Line, TooLong, Silent, Whole, Broken, line_of}
+use Rattle.faissb_core.specs.Language.Command.{Command, New, Shard, Unshard, Change, Ask, AskShards}
+use Rattle.faissb_core.specs.Language.Command.{IndexChange, Add, AddIds, Centroids}
+use Rattle.faissb_core.specs.Language.Command.{Nprobe, Nflip, MaxCodes, DirectMap, Remove}
+use Rattle.faissb_core.specs.Language.Lines.{Line, TooLong, Silent, Whole, Broken, line_of, makes_shard, is_shard}
 use Rattle.faissb_core.specs.Machine.Checked.{Checked, given◌else◌, demand◌else◌, ◌>>=◌, is_within}
 use Rattle.faissb_core.specs.Machine.State.{State, Outcome, Changed, code_of, codes_of}
 use Rattle.faissb_core.specs.Machine.New.{new_index, word_of}
 use Rattle.faissb_core.specs.Machine.Adding.{add, add_ids, append, give_centroids, is_light}
 use Rattle.faissb_core.specs.Machine.Settings.{set_nprobe, set_nflip, set_max_codes, set_direct}
-use Rattle.faissb_core.specs.Machine.Step.{step, step_with, line_outcome, command_outcome, change, ask}
-use Rattle.faissb_core.specs.Machine.Legal.{IsLegalIndex, IsLegalState}
+use Rattle.faissb_core.specs.Machine.Shards.{may_be_shard, shard_limit, with_shard}
+use Rattle.faissb_core.specs.Machine.Step.{step, step_with, line_outcome, command_outcome, change, ask, ask_shards}
+use Rattle.faissb_core.specs.Machine.Legal.{IsLegalIndex, AreLegalShards, IsLegalState}
 use Rattle.faissb_core.proofs.LanguageLemmas.ReadLemmas.{IsReadCommand, IsReadLine, line_is_read}
 use Rattle.faissb_core.proofs.SessionLemmas.CheckedLemmas.{given_value, bind_gives, demand_gives, given_gives}
 use Rattle.faissb_core.proofs.SessionLemmas.CheckedLemmas.{accept_gives}
@@ -203,51 +209,109 @@ change_legal (Nprobe n) v read legal = nprobe_legal n v legal
 change_legal (Nflip n) v read legal = nflip_legal n v legal
 change_legal (MaxCodes n) v read legal = max_codes_legal n v legal
 change_legal (DirectMap on) v read legal = direct_legal on v legal
+change_legal (Remove selector) v read legal =
+    given_gives IsLegalChange (removed selector v) Kind _ (λ w is. removed_legal selector v w legal is)
+
+-- ---- shards
+
+pub alike_to_itself : (v : IndexValue) → may_be_shard v ≡ true → is_alike v v ≡ true
+alike_to_itself (Bare (Flat v)) is = eq-eqb v.dim v.dim refl
+alike_to_itself (Bare (Multi v)) is =
+    rw (
+      eq-eqb v.dim v.dim refl,
+      eq-eqb v.nhash v.nhash refl,
+      eq-eqb v.b v.b refl,
+      eq-eqb v.nflip v.nflip refl,
+    ) refl
+alike_to_itself (Bare (Ivf v)) is = absurd cc
+alike_to_itself (Bare (Hash v)) is = absurd cc
+alike_to_itself (IdMap name v ids) is = absurd cc
+
+pub no_shards : AreLegalShards []
+no_shards = record { each = All-nil IsLegal; alike = refl; load = omega arith }
+
+one_more : (vs : List IndexValue) (v : IndexValue) → AreLegalShards vs → IsLegal v
+    → IfOk (with_shard vs v) AreLegalShards
+one_more vs v legal this =
+    demand_gives AreLegalShards (may_be_shard v) Kind _ (λ kind.
+    demand_gives AreLegalShards (nat_le (sum_by load_of (vs ++ v ∷ [])) shard_limit) Load _ (λ light.
+    demand_gives AreLegalShards (list_all (is_alike v) vs) Mismatch _ (λ alike. record {
+      each = All-append IsLegal vs (v ∷ []) legal.each (All-cons IsLegal v [] this (All-nil IsLegal));
+      alike = are_alike_push vs v legal.alike (alike_to_itself v kind) alike;
+      load = leb-true (sum_by load_of (vs ++ v ∷ [])) shard_limit light;
+    })))
 
 -- ---- steps
 
--- a state that follows another
-pub record Follows (before after : State) : Type 0 where
+-- a state that follows another, and keeps an index where it is to keep one
+pub record Follows (keeps : Bool) (before after : State) : Type 0 where
   pub legal : IsLegalState after
-  pub some : is_some before.index ≡ true → is_some after.index ≡ true
+  pub some : keeps ≡ true → is_some before.index ≡ true → is_some after.index ≡ true
 
-stays : (s : State) → IsLegalState s → Follows s s
-stays s legal = record { legal = legal; some = λ is. is }
+stays : (keeps : Bool) (s : State) → IsLegalState s → Follows keeps s s
+stays keeps s legal = record { legal = legal; some = λ _ is. is }
 
 -- a legal index in a state
-now_holds : (s : State) (v : IndexValue) → IsLegal v → Follows s (record s { index = Some v })
-now_holds s v legal = record { legal = record { index = legal }; some = λ _. refl }
+now_holds : (keeps : Bool) (s : State) (v : IndexValue) → IsLegalState s → IsLegal v
+    → Follows keeps s (record s { index = Some v })
+now_holds keeps s v before legal = record {
+  legal = record { index = legal; shards = before.shards };
+  some = λ _ _. refl;
+}
 
 pub held_legal : (s : State) (v : IndexValue) → IsLegalState s → s.index ≡ Some v → IsLegal v
 held_legal s v legal is = subst IsLegalIndex is legal.index
 
+abbrev keeps_index : Command → Bool
+keeps_index command = not (makes_shard (Whole command))
+
 command_follows : (s : State) (files : Files) (command : Command) → IsReadCommand command → IsLegalState s
-    → IfOk (command_outcome command s files) (λ o. Follows s o.state)
+    → IfOk (command_outcome command s files) (λ o. Follows (keeps_index command) s o.state)
 command_follows s files (New bits text) read legal =
-    bind_gives (λ o. Follows s o.state) (new_index bits text) _ (λ v is.
-    now_holds s v (given_value IsLegal (new_index bits text) v (new_legal bits text) is))
+    bind_gives (λ o. Follows true s o.state) (new_index bits text) _ (λ v is.
+    now_holds true s v legal (given_value IsLegal (new_index bits text) v (new_legal bits text) is))
+command_follows s files Shard read legal =
+    given_gives (λ o. Follows false s o.state) s.index NoIndex _ (λ v holds.
+    bind_gives (λ o. Follows false s o.state) (with_shard s.shards v) _ (λ vs is. record {
+      legal = record {
+        index = tt;
+        shards = given_value AreLegalShards (with_shard s.shards v) vs
+            (one_more s.shards v legal.shards (held_legal s v legal holds)) is;
+      };
+      some = λ not. absurd cc;
+    }))
+command_follows s files Unshard read legal = record {
+  legal = record { index = legal.index; shards = no_shards };
+  some = λ _ is. is;
+}
 command_follows s files (Change c) read legal =
-    given_gives (λ o. Follows s o.state) s.index NoIndex _ (λ v holds.
-    bind_gives (λ o. Follows s o.state) (change c v) _ (λ done is.
-    now_holds s done.index (given_value IsLegalChange (change c v) done
+    given_gives (λ o. Follows true s o.state) s.index NoIndex _ (λ v holds.
+    bind_gives (λ o. Follows true s o.state) (change c v) _ (λ done is.
+    now_holds true s done.index legal (given_value IsLegalChange (change c v) done
     (change_legal c v read (held_legal s v legal holds)) is)))
 command_follows s files (Ask question) read legal =
-    given_gives (λ o. Follows s o.state) s.index NoIndex _ (λ v holds.
-    bind_gives (λ o. Follows s o.state) (ask question v) _ (λ answer is. stays s legal))
+    given_gives (λ o. Follows true s o.state) s.index NoIndex _ (λ v holds.
+    bind_gives (λ o. Follows true s o.state) (ask question v) _ (λ answer is. stays true s legal))
+command_follows s files (AskShards question) read legal =
+    bind_gives (λ o. Follows true s o.state) (ask_shards question s.shards) _ (λ answer is. stays true s legal)
+
+abbrev line_keeps : Line → Bool
+line_keeps line = not (makes_shard line)
 
 line_follows : (s : State) (files : Files) (line : Line) → IsReadLine line → IsLegalState s
-    → IfOk (line_outcome line s files) (λ o. Follows s o.state)
+    → IfOk (line_outcome line s files) (λ o. Follows (line_keeps line) s o.state)
 line_follows s files TooLong read legal = tt
-line_follows s files Silent read legal = stays s legal
+line_follows s files Silent read legal = stays true s legal
 line_follows s files (Whole command) read legal = command_follows s files command read legal
 line_follows s files Broken read legal = tt
 
-step_with_follows : (s : State) (files : Files) (c : Checked Outcome) → IsLegalState s
-    → IfOk c (λ o. Follows s o.state) → Follows s (step_with s files c).state
-step_with_follows s files (Ok o) legal follows = follows
-step_with_follows s files (Err e) legal follows = stays s legal
+step_with_follows : (keeps : Bool) (s : State) (files : Files) (c : Checked Outcome) → IsLegalState s
+    → IfOk c (λ o. Follows keeps s o.state) → Follows keeps s (step_with s files c).state
+step_with_follows keeps s files (Ok o) legal follows = follows
+step_with_follows keeps s files (Err e) legal follows = stays keeps s legal
 
-pub step_follows : (s : State) (files : Files) (line : List ℕ) → IsLegalState s → Follows s (step s files line).state
+pub step_follows : (s : State) (files : Files) (line : List ℕ) → IsLegalState s
+    → Follows (not (is_shard line)) s (step s files line).state
 unfolding step
-step_follows s files line legal = step_with_follows s files (line_outcome (line_of line) s files) legal
-    (line_follows s files (line_of line) (line_is_read line) legal)
+step_follows s files line legal = step_with_follows (not (is_shard line)) s files
+    (line_outcome (line_of line) s files) legal (line_follows s files (line_of line) (line_is_read line) legal)

@@ -1,6 +1,6 @@
 -- A marked answer is that of a full scan.
 use Rattle.std.proofs.Common.{◌≡◌, ◌≤◌, ◌+◌, ◌-◌, ◌*◌, ◌^◌, ℕ, ℤ, Bool, true, false, not, ◌||◌, nat_le, nat_lt, length, map, Option, Some, Ok, Err, List, [], ◌∷◌}
-use Rattle.std.proofs.Common.{refl, sym, ap, ◌∙◌, subst}
+use Rattle.std.proofs.Common.{refl, sym, ap, ◌∙◌, subst, arith}
 use Rattle.std.proofs.lemmas.Bool.{le-leb}
 use Rattle.std.specs.Result.{IfOk}
 use Rattle.bcodes.specs.declared.hit.Hit.{Hit}
@@ -16,20 +16,27 @@ use Rattle.faissb_core.specs.declared.reply.refusal.Refusal.{Refusal}
 use Rattle.faissb_core.specs.declared.reply.refusal.Refusal.TheVariants.{Ids, Kind, NoIndex, Value, Full, Untrained, Load}
 use Rattle.faissb_core.specs.declared.reply.refusal.Refusal.TheVariants.{NoDirect, Sequential}
 use Rattle.any_index.specs.Labels.{finds_labels, code_labelled}
+use Rattle.id_select.specs.Removal.{removed}
+use Rattle.shard_set.specs.Joined.{joined, joined_best, joined_count, joined_looked, joined_within}
+use Rattle.shard_set.proofs.LawLemmas.{joined_best_is, joined_legal, joined_within_is}
 use Rattle.faissb_core.specs.Language.Words.{Word, IdWord}
-use Rattle.faissb_core.specs.Language.Command.{Command, New, Change, Ask, IndexChange, Add, AddIds, Centroids}
-use Rattle.faissb_core.specs.Language.Command.{Nprobe, Nflip, MaxCodes, DirectMap}
-use Rattle.faissb_core.specs.Language.Command.{IndexQuestion, Search, Range, Reconstruct}
+use Rattle.faissb_core.specs.Language.Command.{Command, New, Shard, Unshard, Change, Ask, AskShards}
+use Rattle.faissb_core.specs.Language.Command.{IndexChange, Add, AddIds, Centroids, Nprobe, Nflip, MaxCodes}
+use Rattle.faissb_core.specs.Language.Command.{DirectMap, Remove}
+use Rattle.faissb_core.specs.Language.Command.{IndexQuestion, Search, Range, Nearest, Reconstruct, Show}
+use Rattle.faissb_core.specs.Language.Command.{ShardQuestion, ShardSearch, ShardRange}
 use Rattle.faissb_core.specs.Language.Lines.{Line, TooLong, Silent, Whole, Broken, line_of}
 use Rattle.faissb_core.specs.Reply.Answer.{Answer, Quiet, Done, Added, Held, Found, Code, reply_of}
+use Rattle.faissb_core.specs.Reply.Answer.{Shown, Sharded, Removed}
 use Rattle.faissb_core.specs.Machine.Checked.{Checked, given◌else◌, demand◌else◌, ◌>>=◌, is_within}
 use Rattle.faissb_core.specs.Machine.State.{State, Outcome, Changed, code_of, codes_of}
 use Rattle.faissb_core.specs.Machine.New.{new_index}
 use Rattle.faissb_core.specs.Machine.Adding.{append, is_light}
-use Rattle.faissb_core.specs.Machine.Queries.{search, range, reconstruct, k_limit, radius_limit}
-use Rattle.faissb_core.specs.Machine.Step.{step, step_with, line_outcome, command_outcome, change, ask}
-use Rattle.faissb_core.specs.Machine.Legal.{IsLegalState}
-use Rattle.faissb_core.specs.Machine.Marked.{scan_of, question_scan, MarkedIsScan, AllMarkedAreScans}
+use Rattle.faissb_core.specs.Machine.Queries.{search, range, nearest, reconstruct, k_limit, radius_limit}
+use Rattle.faissb_core.specs.Machine.Shards.{with_shard, shard_search, shard_range}
+use Rattle.faissb_core.specs.Machine.Step.{step, step_with, line_outcome, command_outcome, change, ask, ask_shards}
+use Rattle.faissb_core.specs.Machine.Legal.{AreLegalShards, IsLegalState}
+use Rattle.faissb_core.specs.Machine.Marked.{scan_of, question_scan, shard_scan, MarkedIsScan, AllMarkedAreScans}
 use Rattle.faissb_core.specs.Machine.Marked.{IsWithinBound, IsNotPartial, AllWithinBoundAreExact, best_scan, range_scan}
 use Rattle.faissb_core.proofs.SessionLemmas.CheckedLemmas.{given_value, bind_gives, demand_gives, given_gives}
 use Rattle.faissb_core.proofs.SessionLemmas.LegalLemmas.{held_legal, step_follows}
@@ -73,6 +80,7 @@ change_quiet (DirectMap on) v =
     given_gives IsQuiet (ivf_in v) Kind _ (λ ivf is.
     demand_gives IsQuiet (not on || is_numbering (map (λ (row : ListRow). row.label) ivf.rows)) Sequential _
     (λ test. tt))
+change_quiet (Remove selector) v = given_gives IsQuiet (removed selector v) Kind _ (λ w is. tt)
 
 -- ---- each reply has P
 
@@ -86,14 +94,23 @@ SparesOthers P = (answer : Answer) → IsNotFound answer → P (Ok answer)
 command_answered : (P : Checked Answer → Type 0) (s : State) (files : Files) (command : Command) → SparesOthers P
     → ((question : IndexQuestion) (v : IndexValue) → command ≡ Ask question → s.index ≡ Some v
     → IfOk (ask question v) (λ a. P (Ok a)))
+    → ((question : ShardQuestion) → command ≡ AskShards question
+    → IfOk (ask_shards question s.shards) (λ a. P (Ok a)))
     → IfOk (command_outcome command s files) (IsAnsweredBy P)
-command_answered P s files (New bits text) spares asked =
+command_answered P s files (New bits text) spares asked asked_shards =
     bind_gives (IsAnsweredBy P) (new_index bits text) _ (λ v is. spares Done tt)
-command_answered P s files (Change c) spares asked =
+command_answered P s files Shard spares asked asked_shards =
+    given_gives (IsAnsweredBy P) s.index NoIndex _ (λ v holds.
+    bind_gives (IsAnsweredBy P) (with_shard s.shards v) _ (λ vs is. spares (Sharded (length vs) (joined_count vs)) tt))
+command_answered P s files Unshard spares asked asked_shards = spares Done tt
+command_answered P s files (AskShards question) spares asked asked_shards =
+    bind_gives (IsAnsweredBy P) (ask_shards question s.shards) _ (λ answer is.
+    given_value (λ a. P (Ok a)) (ask_shards question s.shards) answer (asked_shards question refl) is)
+command_answered P s files (Change c) spares asked asked_shards =
     given_gives (IsAnsweredBy P) s.index NoIndex _ (λ v holds.
     bind_gives (IsAnsweredBy P) (change c v) _ (λ done is.
     spares done.answer (given_value IsQuiet (change c v) done (change_quiet c v) is)))
-command_answered P s files (Ask question) spares asked =
+command_answered P s files (Ask question) spares asked asked_shards =
     given_gives (IsAnsweredBy P) s.index NoIndex _ (λ v holds.
     bind_gives (IsAnsweredBy P) (ask question v) _ (λ answer is.
     given_value (λ a. P (Ok a)) (ask question v) answer (asked question v refl holds) is))
@@ -101,12 +118,15 @@ command_answered P s files (Ask question) spares asked =
 line_answered : (P : Checked Answer → Type 0) (s : State) (files : Files) (line : Line) → SparesOthers P
     → ((question : IndexQuestion) (v : IndexValue) → line ≡ Whole (Ask question) → s.index ≡ Some v
     → IfOk (ask question v) (λ a. P (Ok a)))
+    → ((question : ShardQuestion) → line ≡ Whole (AskShards question)
+    → IfOk (ask_shards question s.shards) (λ a. P (Ok a)))
     → IfOk (line_outcome line s files) (IsAnsweredBy P)
-line_answered P s files TooLong spares asked = tt
-line_answered P s files Silent spares asked = spares Quiet tt
-line_answered P s files (Whole command) spares asked =
+line_answered P s files TooLong spares asked asked_shards = tt
+line_answered P s files Silent spares asked asked_shards = spares Quiet tt
+line_answered P s files (Whole command) spares asked asked_shards =
     command_answered P s files command spares (λ question v is holds. asked question v (ap Whole is) holds)
-line_answered P s files Broken spares asked = tt
+    (λ question is. asked_shards question (ap Whole is))
+line_answered P s files Broken spares asked asked_shards = tt
 
 step_answered : (P : Checked Answer → Type 0) (s : State) (files : Files) (c : Checked Outcome)
     → ((refusal : Refusal) → P (Err refusal)) → IfOk c (IsAnsweredBy P) → P (step_with s files c).reply
@@ -122,6 +142,9 @@ spares_marked scan (Added m n) is = tt
 spares_marked scan (Held m n) is = tt
 spares_marked scan (Found hits lent mark) is = absurd is
 spares_marked scan (Code code) is = tt
+spares_marked scan (Shown about) is = tt
+spares_marked scan (Sharded m n) is = tt
+spares_marked scan (Removed m n) is = tt
 
 found_is : (scan : Checked (List Hit)) (hits : List Hit) (lent : ℕ) (mark : Bool) → (mark ≡ true → scan ≡ Ok hits)
     → MarkedIsScan scan (Ok (Found hits lent mark))
@@ -150,6 +173,16 @@ range_is radius word v legal =
     ap (λ (c : Checked (List ℕ)). c >>= (λ q. Ok (scan_within v q radius))) read
     ∙ ap Ok (sym (marked_within v q radius legal mark))))))
 
+-- the answer of a growing search is that of the scan
+nearest_is : (k : ℕ) (word : Word) (v : IndexValue)
+    → IfOk (nearest k word v) (λ a. MarkedIsScan (best_scan k word v) (Ok a))
+nearest_is k word v =
+    let P : Answer → Type 0 = λ a. MarkedIsScan (best_scan k word v) (Ok a) in
+    bind_gives P (code_of (code_size v) word) _ (λ q read.
+    given_gives P (multi_in v) Kind _ (λ multi is.
+    demand_gives P (is_within 1 k_limit k) Value _ (λ few.
+    ap (λ (c : Checked (List ℕ)). c >>= (λ q. Ok (scan_best v q k))) read)))
+
 -- the code of a label is no hit
 reconstructs : (P : Checked Answer → Type 0) (label : ℕ) (v : IndexValue) → SparesOthers P
     → IfOk (reconstruct label v) (λ a. P (Ok a))
@@ -162,9 +195,51 @@ question_is : (question : IndexQuestion) (v : IndexValue) → IsLegal v
     → IfOk (ask question v) (λ a. MarkedIsScan (question_scan question v) (Ok a))
 question_is (Search k word) v legal = search_is k word v legal
 question_is (Range radius word) v legal = range_is radius word v legal
+question_is (Nearest k word) v legal = nearest_is k word v
+question_is Show v legal = tt
 question_is (Reconstruct label) v legal =
     reconstructs (MarkedIsScan (question_scan (Reconstruct label) v)) label v
     (spares_marked (question_scan (Reconstruct label) v))
+
+-- shards as one index
+joined_is_legal : (vs : List IndexValue) (v : IndexValue) → AreLegalShards vs → joined vs ≡ Some v → IsLegal v
+joined_is_legal vs v legal is = joined_legal vs v legal.alike is legal.each (omega (arith, legal.load))
+
+shard_search_is : (k : ℕ) (word : Word) (vs : List IndexValue) → AreLegalShards vs
+    → IfOk (shard_search k word vs)
+    (λ a. MarkedIsScan ((given joined vs else NoIndex) >>= (λ v. best_scan k word v)) (Ok a))
+shard_search_is k word vs legal =
+    let scan : Checked (List Hit) = (given joined vs else NoIndex) >>= (λ v. best_scan k word v) in
+    let P : Answer → Type 0 = λ a. MarkedIsScan scan (Ok a) in
+    given_gives P (joined vs) NoIndex _ (λ v is.
+    bind_gives P (code_of (code_size v) word) _ (λ q read.
+    demand_gives P (is_within 1 k_limit k) Value _ (λ few.
+    found_is scan (joined_best vs q k) (joined_looked vs q) (search_mark v q k) (λ mark.
+    ap (λ (o : Option IndexValue). (given o else NoIndex) >>= (λ v. best_scan k word v)) is
+    ∙ ap (λ (c : Checked (List ℕ)). c >>= (λ q. Ok (scan_best v q k))) read
+    ∙ ap Ok (sym (joined_best_is vs v q k legal.alike is
+    ∙ marked_best v q k (joined_is_legal vs v legal is) mark))))))
+
+shard_range_is : (radius : ℕ) (word : Word) (vs : List IndexValue) → AreLegalShards vs
+    → IfOk (shard_range radius word vs)
+    (λ a. MarkedIsScan ((given joined vs else NoIndex) >>= (λ v. range_scan radius word v)) (Ok a))
+shard_range_is radius word vs legal =
+    let scan : Checked (List Hit) = (given joined vs else NoIndex) >>= (λ v. range_scan radius word v) in
+    let P : Answer → Type 0 = λ a. MarkedIsScan scan (Ok a) in
+    given_gives P (joined vs) NoIndex _ (λ v is.
+    bind_gives P (code_of (code_size v) word) _ (λ q read.
+    demand_gives P (nat_le radius radius_limit) Value _ (λ few.
+    found_is scan (joined_within vs q radius) (joined_looked vs q) (range_mark v q radius) (λ mark.
+    ap (λ (o : Option IndexValue). (given o else NoIndex) >>= (λ v. range_scan radius word v)) is
+    ∙ ap (λ (c : Checked (List ℕ)). c >>= (λ q. Ok (scan_within v q radius))) read
+    ∙ ap Ok (sym (joined_within_is vs v q radius legal.alike is
+    ∙ marked_within v q radius (joined_is_legal vs v legal is) mark))))))
+
+shard_question_is : (question : ShardQuestion) (vs : List IndexValue) → AreLegalShards vs
+    → IfOk (ask_shards question vs)
+    (λ a. MarkedIsScan ((given joined vs else NoIndex) >>= (λ v. shard_scan question v)) (Ok a))
+shard_question_is (ShardSearch k word) vs legal = shard_search_is k word vs legal
+shard_question_is (ShardRange radius word) vs legal = shard_range_is radius word vs legal
 
 refused_marked : (scan : Checked (List Hit)) (refusal : Refusal) → MarkedIsScan scan (Err refusal)
 refused_marked scan refusal = tt
@@ -183,7 +258,9 @@ line_is s files line legal =
     (refused_marked (scan_of line s))
     (line_answered (MarkedIsScan (scan_of line s)) s files line (spares_marked (scan_of line s))
     (λ question v is holds. subst (λ scan. IfOk (ask question v) (λ a. MarkedIsScan scan (Ok a)))
-    (sym (scan_is line s question v is holds)) (question_is question v (held_legal s v legal holds))))
+    (sym (scan_is line s question v is holds)) (question_is question v (held_legal s v legal holds)))
+    (λ question is. subst (λ scan. IfOk (ask_shards question s.shards) (λ a. MarkedIsScan scan (Ok a)))
+    (sym (ap (λ l. scan_of l s) is)) (shard_question_is question s.shards legal.shards)))
 
 pub step_is : (s : State) (files : Files) (line : List ℕ) → IsLegalState s
     → MarkedIsScan (scan_of (line_of line) s) (step s files line).reply
@@ -199,12 +276,15 @@ spares_partial (Added m n) is = tt
 spares_partial (Held m n) is = tt
 spares_partial (Found hits lent mark) is = absurd is
 spares_partial (Code code) is = tt
+spares_partial (Shown about) is = tt
+spares_partial (Sharded m n) is = tt
+spares_partial (Removed m n) is = tt
 
 or_true : (a b : Bool) → b ≡ true → (a || b) ≡ true
 or_true true b is = refl
 or_true false b is = is
 
-same_multi : (v w : MultiValue) → Some v ≡ Some w → v ≡ w
+pub same_multi : (v w : MultiValue) → Some v ≡ Some w → v ≡ w
 same_multi v w is = cc
 
 bound_is : (v : IndexValue) (multi : MultiValue) → multi_in v ≡ Some multi → bound_of v ≡ multi.nhash * (multi.nflip + 1)
@@ -235,7 +315,12 @@ bound_question : (s : State) (question : IndexQuestion) (v : IndexValue) → s.i
 bound_question s (Search k word) v holds bound = absurd bound
 bound_question s (Range radius word) v holds bound =
     range_exact radius word v bound.1 (ap multi_in (same_index s v bound.0 holds bound.2) ∙ bound.3) bound.4
+bound_question s (Nearest k word) v holds bound = absurd bound
 bound_question s (Reconstruct label) v holds bound = absurd bound
+bound_question s Show v holds bound = absurd bound
+
+no_bound : (s : State) (line : Line) (question : ShardQuestion) → line ≡ Whole (AskShards question) → IsWithinBound line s → ⊥
+no_bound s line question is bound = subst (λ l. IsWithinBound l s) is bound
 
 refused_exact : (refusal : Refusal) → IsNotPartial (Err refusal)
 refused_exact refusal = tt
@@ -245,7 +330,8 @@ bound_line : (s : State) (files : Files) (line : Line) → IsWithinBound line s
 bound_line s files line bound =
     step_answered IsNotPartial s files (line_outcome line s files) refused_exact
     (line_answered IsNotPartial s files line spares_partial
-    (λ question v is holds. bound_question s question v holds (subst (λ l. IsWithinBound l s) is bound)))
+    (λ question v is holds. bound_question s question v holds (subst (λ l. IsWithinBound l s) is bound))
+    (λ question is. absurd (no_bound s line question is bound)))
 
 pub step_exact : (s : State) (files : Files) (line : List ℕ) → IsWithinBound (line_of line) s
     → IsNotPartial (step s files line).reply

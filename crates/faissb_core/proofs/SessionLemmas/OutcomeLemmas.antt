@@ -10,13 +10,13 @@ use Rattle.faissb_core.specs.declared.reply.refusal.Refusal.{Refusal}
 use Rattle.faissb_core.specs.declared.session.halt.Halt.{Halt}
 use Rattle.faissb_core.specs.declared.session.halt.Halt.TheVariants.{Refused, Memory}
 use Rattle.faissb_core.specs.Language.Words.{Word}
-use Rattle.faissb_core.specs.Language.Command.{IndexChange, IndexQuestion, New, Change, Ask}
+use Rattle.faissb_core.specs.Language.Command.{IndexChange, IndexQuestion, ShardQuestion, New, Change, Ask, AskShards}
 use Rattle.faissb_core.specs.Language.Lines.{Line, line_of}
 use Rattle.faissb_core.specs.Reply.Answer.{Answer, Done, reply_of}
 use Rattle.faissb_core.specs.Machine.Checked.{Checked, ◌>>=◌}
 use Rattle.faissb_core.specs.Machine.New.{new_index}
 use Rattle.faissb_core.specs.Machine.State.{State, Outcome, Changed, changed, leaves}
-use Rattle.faissb_core.specs.Machine.Step.{step, step_with, line_outcome, command_outcome, change, ask}
+use Rattle.faissb_core.specs.Machine.Step.{step, step_with, line_outcome, command_outcome, change, ask, ask_shards}
 use Rattle.faissb_core.specs.Session.Results.{Refuses, Answers, IsChange, Changes, Leaves, settled}
 use Rattle.faissb_core.specs.Session.Followed.{FollowsStep}
 
@@ -42,32 +42,45 @@ new_refused bits text (Refused r) s files is = ap
     (λ (c : Checked IndexValue). c >>= (λ v. leaves (record s { index = Some v }) Done files)) is
 new_refused bits text Memory s files is = tt
 
--- a state that holds this index
-abbrev pub holding : IndexValue → State
-holding v = record { index = Some v }
+-- a state that holds this index and these shards
+abbrev pub holding : IndexValue → List IndexValue → State
+holding v vs = record { index = Some v; shards = vs }
 
-pub change_leaves : (c : IndexChange) (v w : IndexValue) (files : Files) (done : Result Reply Halt)
-    → Changes (change c v) w done → Leaves (command_outcome (Change c) (holding v) files) (holding w) files done
-change_leaves c v w files (Ok reply) is = record {
+pub change_leaves : (c : IndexChange) (v w : IndexValue) (vs : List IndexValue) (files : Files) (done : Result Reply Halt)
+    → Changes (change c v) w done
+    → Leaves (command_outcome (Change c) (holding v vs) files) (holding w vs) files done
+change_leaves c v w vs files (Ok reply) is = record {
   answer = is.answer;
-  passed = ap (λ (m : Checked Changed). m >>= (λ d. leaves (holding d.index) d.answer files)) is.passed;
+  passed = ap (λ (m : Checked Changed). m >>= (λ d. leaves (holding d.index vs) d.answer files)) is.passed;
   reply_is = is.reply_is;
 }
-change_leaves c v w files (Err (Refused r)) is = ap
-    (λ (m : Checked Changed). m >>= (λ d. leaves (holding d.index) d.answer files)) is
-change_leaves c v w files (Err Memory) is = tt
+change_leaves c v w vs files (Err (Refused r)) is = ap
+    (λ (m : Checked Changed). m >>= (λ d. leaves (holding d.index vs) d.answer files)) is
+change_leaves c v w vs files (Err Memory) is = tt
 
-pub answer_leaves : (question : IndexQuestion) (v : IndexValue) (files : Files) (done : Result Reply Halt)
+pub answer_leaves : (question : IndexQuestion) (v : IndexValue) (vs : List IndexValue) (files : Files)
+    (done : Result Reply Halt)
     → Answers (ask question v) done
-    → Leaves (command_outcome (Ask question) (holding v) files) (holding v) files done
-answer_leaves question v files (Ok reply) is = record {
+    → Leaves (command_outcome (Ask question) (holding v vs) files) (holding v vs) files done
+answer_leaves question v vs files (Ok reply) is = record {
   answer = is.answer;
-  passed = ap (λ (m : Checked Answer). m >>= (λ a. leaves (holding v) a files)) is.passed;
+  passed = ap (λ (m : Checked Answer). m >>= (λ a. leaves (holding v vs) a files)) is.passed;
   reply_is = is.reply_is;
 }
-answer_leaves question v files (Err (Refused r)) is = ap
-    (λ (m : Checked Answer). m >>= (λ a. leaves (holding v) a files)) is
-answer_leaves question v files (Err Memory) is = tt
+answer_leaves question v vs files (Err (Refused r)) is = ap
+    (λ (m : Checked Answer). m >>= (λ a. leaves (holding v vs) a files)) is
+answer_leaves question v vs files (Err Memory) is = tt
+
+pub shards_leave : (question : ShardQuestion) (s : State) (files : Files) (done : Result Reply Halt)
+    → Answers (ask_shards question s.shards) done
+    → Leaves (command_outcome (AskShards question) s files) s files done
+shards_leave question s files (Ok reply) is = record {
+  answer = is.answer;
+  passed = ap (λ (m : Checked Answer). m >>= (λ a. leaves s a files)) is.passed;
+  reply_is = is.reply_is;
+}
+shards_leave question s files (Err (Refused r)) is = ap (λ (m : Checked Answer). m >>= (λ a. leaves s a files)) is
+shards_leave question s files (Err Memory) is = tt
 
 -- what a change came to
 pub changes_to : (checked : Checked Changed) (new after : IndexValue) (answer : Answer) (reply : Reply)

@@ -4,18 +4,16 @@ use Rattle.std.proofs.Common.{length, map, refl, sym, ap, ◌∙◌, subst, arit
 use Rattle.std.proofs.lemmas.Bool.{leb-true, le-leb}
 use Rattle.std.proofs.lemmas.List.{length-map}
 use Rattle.bcodes.specs.Ranges.{load_limit}
-use Rattle.bcodes.specs.Value.{Row, ListRow, IvfValue, Inner, Flat, Ivf, Hash, Multi, IndexValue, Bare, IdMap, numbered}
-use Rattle.bcodes.specs.Value.{dim_of_inner, count_of, count_of_inner, is_trained, load_of, load_of_inner, weight}
+use Rattle.bcodes.specs.Value.{ListRow, IvfValue, Inner, Flat, Ivf, Hash, Multi, IndexValue, Bare, IdMap}
+use Rattle.bcodes.specs.Value.{count_of, is_trained, load_of}
 use Rattle.bcodes.specs.Value.{IsLegal, IsNumbering, code_size, labels_from, takes_ids}
 use Rattle.std.proofs.Common.{is_some}
 use Rattle.bcodes.specs.Value.{inner_of}
 use Rattle.bcodes.specs.Settings.{ivf_in, ivf_in_inner, with_ivf, needs_ids, is_numbering}
 use Rattle.factory_text.specs.declared.kind.Kind.TheVariants as kind
-use Rattle.bcodes.specs.Answers.{added_inner, after_add, after_centroids, given_inner, paired}
+use Rattle.bcodes.specs.Answers.{after_add, after_centroids, given_inner}
 use Rattle.bcodes.proofs.LegalLemmas.{count-le}
-use Rattle.bcodes.proofs.NumberedLemmas.{length-numbered}
-use Rattle.row_lists.proofs.PutLemmas.{length-paired}
-use Rattle.any_index.specs.Specs.{kind_of, spec_of, maps_of, held_of, held_inner}
+use Rattle.any_index.specs.Specs.{spec_of, held_of, held_inner}
 use Rattle.faissb_core.specs.declared.reply.refusal.Refusal.TheVariants.{Load}
 use Rattle.faissb_core.specs.Language.Words.{Word, IdWord}
 use Rattle.faissb_core.specs.Reply.Answer.{Added, Held, Done}

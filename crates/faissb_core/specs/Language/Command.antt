@@ -1,5 +1,6 @@
 -- The commands of a script.
 use Rattle.std.specs.Prelude.{ℕ, Bool, List}
+use Rattle.id_select.specs.declared.selector.Selector.{Selector}
 use Rattle.faissb_core.specs.Language.Words.{Word, IdWord}
 
 -- the commands that change the index
@@ -11,14 +12,25 @@ pub data IndexChange : Type 0 where
   Nflip : ℕ → IndexChange
   MaxCodes : ℕ → IndexChange
   DirectMap : Bool → IndexChange
+  Remove : Selector → IndexChange
 
 -- those that ask it something
 pub data IndexQuestion : Type 0 where
   Search : ℕ → Word → IndexQuestion
   Range : ℕ → Word → IndexQuestion
+  Nearest : ℕ → Word → IndexQuestion
   Reconstruct : ℕ → IndexQuestion
+  Show : IndexQuestion
+
+-- those that ask the shards something
+pub data ShardQuestion : Type 0 where
+  ShardSearch : ℕ → Word → ShardQuestion
+  ShardRange : ℕ → Word → ShardQuestion
 
 pub data Command : Type 0 where
   New : ℕ → Word → Command
+  Shard : Command
+  Unshard : Command
   Change : IndexChange → Command
   Ask : IndexQuestion → Command
+  AskShards : ShardQuestion → Command

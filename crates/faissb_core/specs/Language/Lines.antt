@@ -3,7 +3,7 @@ use Rattle.std.specs.Prelude.{ℕ, List, [], ◌∷◌, ◌==◌, Bool, true, fa
 use Rattle.std.specs.Prelude.{Option, None, Some}
 use Rattle.std.specs.List.{list_all, onto_first}
 use Rattle.faissb_core.specs.Language.Words.{words_of, is_word}
-use Rattle.faissb_core.specs.Language.Command.{Command}
+use Rattle.faissb_core.specs.Language.Command.{Command, Shard}
 use Rattle.faissb_core.specs.Language.Grammar.{command_of}
 
 -- The lines, each without its line feed. What stands after the last line feed is a line where it is not empty.
@@ -48,6 +48,14 @@ has_command Broken = false
 -- whether a line is a command
 abbrev pub is_command : List ℕ → Bool
 is_command line = has_command (line_of line)
+
+-- whether a line makes a shard of the index
+abbrev pub makes_shard : Line → Bool
+makes_shard (Whole Shard) = true
+makes_shard line = false
+
+abbrev pub is_shard : List ℕ → Bool
+is_shard line = makes_shard (line_of line)
 
 -- whether a line reads a file, and whether it writes one: no command does so yet
 abbrev pub is_load : List ℕ → Bool

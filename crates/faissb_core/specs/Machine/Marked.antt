@@ -4,13 +4,15 @@ use Rattle.bcodes.specs.declared.hit.Hit.{Hit}
 use Rattle.bcodes.specs.Value.{MultiValue, IndexValue, code_size}
 use Rattle.bcodes.specs.Settings.{multi_in}
 use Rattle.bcodes.specs.Answers.{scan_best, scan_within}
+use Rattle.shard_set.specs.Joined.{joined}
 use Rattle.outside.specs.Contents.{Files}
-use Rattle.faissb_core.specs.declared.reply.refusal.Refusal.TheVariants.{Line as NoQuery}
+use Rattle.faissb_core.specs.declared.reply.refusal.Refusal.TheVariants.{Line as NoQuery, NoIndex}
 use Rattle.faissb_core.specs.Language.Words.{Word}
-use Rattle.faissb_core.specs.Language.Command.{IndexQuestion, Search, Range, Reconstruct, Ask}
+use Rattle.faissb_core.specs.Language.Command.{IndexQuestion, Search, Range, Nearest, Reconstruct, Show, Ask}
+use Rattle.faissb_core.specs.Language.Command.{ShardQuestion, ShardSearch, ShardRange, AskShards}
 use Rattle.faissb_core.specs.Language.Lines.{Line, Whole, line_of}
 use Rattle.faissb_core.specs.Reply.Answer.{Answer, Found}
-use Rattle.faissb_core.specs.Machine.Checked.{Checked, ◌>>=◌}
+use Rattle.faissb_core.specs.Machine.Checked.{Checked, given◌else◌, ◌>>=◌}
 use Rattle.faissb_core.specs.Machine.State.{State, index_of, code_of}
 use Rattle.faissb_core.specs.Machine.Step.{step}
 
@@ -28,13 +30,23 @@ range_scan radius word v = do
 abbrev pub question_scan : IndexQuestion → IndexValue → Checked (List Hit)
 question_scan (Search k word) v = best_scan k word v
 question_scan (Range radius word) v = range_scan radius word v
+question_scan (Nearest k word) v = best_scan k word v
 question_scan (Reconstruct label) v = Err NoQuery
+question_scan Show v = Err NoQuery
+
+-- the same of all shards as one index
+abbrev pub shard_scan : ShardQuestion → IndexValue → Checked (List Hit)
+shard_scan (ShardSearch k word) v = best_scan k word v
+shard_scan (ShardRange radius word) v = range_scan radius word v
 
 -- what a line is answered by a full scan, where it is a query
 abbrev pub scan_of : Line → State → Checked (List Hit)
 scan_of (Whole (Ask question)) s = do
   v ← index_of s
   question_scan question v
+scan_of (Whole (AskShards question)) s = do
+  v ← given joined s.shards else NoIndex
+  shard_scan question v
 scan_of line s = Err NoQuery
 
 -- hits that are marked as exact are those of the full scan

@@ -1,5 +1,5 @@
 -- The state of a session, and what commands leave.
-use Rattle.std.specs.Prelude.{List, Option, None, Ok, ℕ}
+use Rattle.std.specs.Prelude.{List, [], Option, None, Ok, ℕ}
 use Rattle.std.specs.Result.{result_ok}
 use Rattle.hex.specs.Hex.{decode_sized}
 use Rattle.bcodes.specs.Value.{IndexValue}
@@ -9,13 +9,14 @@ use Rattle.faissb_core.specs.Language.Words.{Word}
 use Rattle.faissb_core.specs.Reply.Answer.{Answer}
 use Rattle.faissb_core.specs.Machine.Checked.{Checked, given◌else◌, each}
 
--- the index, if there is one
+-- the index, if there is one, and the shards
 pub record State : Type 0 where
   pub index : Option IndexValue
+  pub shards : List IndexValue
 
--- no index
+-- neither an index nor shards
 abbrev pub start : State
-start = record { index = None }
+start = record { index = None; shards = [] }
 
 -- what an accepted line leaves
 pub record Outcome : Type 0 where

@@ -1,5 +1,5 @@
 -- What the session did with a line.
-use Rattle.std.specs.Prelude.{◌≡◌, Option}
+use Rattle.std.specs.Prelude.{◌≡◌, List, Option}
 use Rattle.bcodes.specs.Value.{IndexValue}
 use Rattle.outside.specs.Contents.{Contents, HasFiles}
 use Rattle.faissb_core.specs.declared.reply.reply.Reply.{Reply}
@@ -7,9 +7,9 @@ use Rattle.faissb_core.specs.Reply.Answer.{reply_of}
 use Rattle.faissb_core.specs.Machine.State.{State}
 use Rattle.faissb_core.specs.Machine.Step.{Step}
 
--- the state of a session that holds this index, if there is one
-abbrev pub state_of : Option IndexValue → State
-state_of index = record { index = index }
+-- the state of a session that holds this index, if there is one, and these shards
+abbrev pub state_of : Option IndexValue → List IndexValue → State
+state_of index shards = record { index = index; shards = shards }
 
 -- this step was done: the state and the files are those after it, and the reply is its reply
 pub record FollowsStep (done : Step) (new : State) (contents : Option Contents) (reply : Reply) : Type 0 where

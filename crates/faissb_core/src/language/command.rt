@@ -1,4 +1,5 @@
 use super::id_words::IdWords;
+use super::ids::Ids;
 
 /// A command that changes the index. The words that follow its name are kept as one text.
 #[derive(Clone, Copy, Debug)]
@@ -17,6 +18,19 @@ pub enum IndexChange<'l> {
     MaxCodes(u64),
     /// Whether a direct map is kept.
     DirectMap(bool),
+    /// Rows to remove.
+    Remove(Selection<'l>),
+}
+
+/// Which rows are removed, by their labels or outer ids.
+#[derive(Clone, Copy, Debug)]
+pub enum Selection<'l> {
+    /// Those with an id of a list.
+    Listed(Ids<'l>),
+    /// All but those with an id of a list.
+    AllBut(Ids<'l>),
+    /// Those from an id on and below another.
+    Between(i64, i64),
 }
 
 /// A command that asks the index something.
@@ -26,8 +40,21 @@ pub enum IndexQuestion<'l> {
     Search(u64, &'l [u8]),
     /// All hits nearer to a code than a radius.
     Range(u64, &'l [u8]),
+    /// So many hits of all codes of a MultiHash, with as many flips as that takes.
+    Nearest(u64, &'l [u8]),
     /// The code with a label.
     Reconstruct(u64),
+    /// What the index is and how it is set.
+    Show,
+}
+
+/// A command that asks the shards something, all of them as one index.
+#[derive(Clone, Copy, Debug)]
+pub enum ShardQuestion<'l> {
+    /// So many hits nearest to a code.
+    Search(u64, &'l [u8]),
+    /// All hits nearer to a code than a radius.
+    Range(u64, &'l [u8]),
 }
 
 /// A command of a script.
@@ -35,6 +62,11 @@ pub enum IndexQuestion<'l> {
 pub enum Command<'l> {
     /// An index of so many bits, as a factory text says.
     New(u64, &'l [u8]),
+    /// The index becomes the last shard.
+    Shard,
+    /// All shards are dropped.
+    Unshard,
     Change(IndexChange<'l>),
     Ask(IndexQuestion<'l>),
+    AskShards(ShardQuestion<'l>),
 }

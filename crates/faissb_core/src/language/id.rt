@@ -22,8 +22,8 @@ fn negative(n: u64) -> Option<i64>
     i64::try_from(-i128::from(n)).ok()
 }
 
-// The id that a word writes.
-fn id(word: &[u8]) -> Option<i64>
+/// The id that a word writes.
+pub fn id(word: &[u8]) -> Option<i64>
     ensures { result ≡ id_of word.now }
 {
     match word {

@@ -31,4 +31,6 @@ pub enum Refusal {
     NoDirect,
     /// The labels are not the numbers below their count, each once.
     Sequential,
+    /// The index is not alike to the shards.
+    Mismatch,
 }

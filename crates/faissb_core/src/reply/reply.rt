@@ -1,6 +1,7 @@
 ghost use Rattle.std.specs.Prelude.{◌≡◌, is_err};
 
 use crate::Refusal;
+use any_index::About;
 use bcodes::{Codes, Hits};
 
 /// What a line is answered.
@@ -18,6 +19,12 @@ pub enum Reply {
     Found(Hits, u64, bool),
     /// One code.
     Code(Codes),
+    /// What the index is and how it is set.
+    Shown(About),
+    /// How many shards there are, and how many codes they have together.
+    Sharded(u64, u64),
+    /// How many codes were removed, and how many there are then.
+    Removed(u64, u64),
     /// The command changed nothing.
     Refused(Refusal),
 }

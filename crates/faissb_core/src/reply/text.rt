@@ -4,7 +4,8 @@ ghost use Rattle.std.specs.Prelude.{Ok, Err, IfOk, IsErrOf, IsOk, OnOk};
 ghost use Rattle.std.specs.List.{flat_map};
 ghost use Rattle.std.specs.Io.KnownBytes.{Appends};
 ghost use Rattle.outside.specs.Causes.{HasCause};
-ghost use Rattle.faissb_core.specs.Reply.Answer.{Added, Code, Held, Quiet, reply_of};
+ghost use Rattle.faissb_core.specs.Reply.Answer.{Added, Code, Held, Quiet, Removed, Sharded, Shown};
+ghost use Rattle.faissb_core.specs.Reply.Answer.{reply_of};
 ghost use Rattle.faissb_core.specs.Reply.Sent.{AppendsFront, SendsPieces};
 ghost use Rattle.faissb_core.specs.Reply.Text.{answer_text, count_text, found_text};
 ghost use Rattle.faissb_core.specs.Reply.Text.{hit_text, mark_word, reply_text};
@@ -14,7 +15,9 @@ use super::outgoing::send_pieces;
 use super::refusal::Refusal;
 use super::reply::Reply;
 use super::send::send_piece;
+use super::shown::shown;
 use crate::PIECE;
+use any_index::About;
 use bcodes::{Codes, Hit};
 use itoa::{Buffer, Integer};
 use outside::{Sink, Trouble};
@@ -42,6 +45,7 @@ fn refused_line(refusal: Refusal) -> &'static str
         Refusal::Load => "refused load\n",
         Refusal::NoDirect => "refused nodirect\n",
         Refusal::Sequential => "refused sequential\n",
+        Refusal::Mismatch => "refused mismatch\n",
     }
 }
 
@@ -49,6 +53,20 @@ fn added_line(alloc: Global, added: u64, total: u64) -> Result<String, AllocErro
     ensures { IfOk result (λ line. string_bytes line ≡ answer_text (Added added total)) }
 {
     let line = format!(in alloc; "added {added} total {total}\n")?;
+    Ok(line)
+}
+
+fn sharded_line(alloc: Global, shards: u64, total: u64) -> Result<String, AllocError>
+    ensures { IfOk result (λ line. string_bytes line ≡ answer_text (Sharded shards total)) }
+{
+    let line = format!(in alloc; "shards {shards} total {total}\n")?;
+    Ok(line)
+}
+
+fn removed_line(alloc: Global, removed: u64, total: u64) -> Result<String, AllocError>
+    ensures { IfOk result (λ line. string_bytes line ≡ answer_text (Removed removed total)) }
+{
+    let line = format!(in alloc; "removed {removed} total {total}\n")?;
     Ok(line)
 }
 
@@ -74,7 +92,7 @@ fn count_line(alloc: Global, count: usize, lent: u64, exact: bool) -> Result<Str
     Ok(line)
 }
 
-fn push_number<I: Integer>(held: &mut Vec<u8>, number: I) -> Result<(), AllocError>
+pub fn push_number<I: Integer>(held: &mut Vec<u8>, number: I) -> Result<(), AllocError>
     ensures { OnOk result (held.new.items ≡ held.old.items ++ I.text number) }
 {
     let mut digits = Buffer::new();
@@ -139,6 +157,21 @@ fn send_found<K: Sink>(
     Ok(())
 }
 
+// A text that may be longer than a piece.
+fn send_text<K: Sink>(mut text: Vec<u8>, out: &mut K) -> Result<(), Trouble>
+    ensures ok { OnOk result (Appends (K.written out.old) (K.written out.new) text.items) }
+    ensures front { AppendsFront (K.written out.old) (K.written out.new) text.items }
+    ensures cause { HasCause (K.faults out.old) (K.faults out.new)
+        (IsErrOf result Trouble.Failed) }
+    ensures faultless { OnOk result (K.faults out.new ≡ K.faults out.old) }
+    ensures memory_is_no_fault { IsErrOf result Trouble.Memory
+        → K.faults out.new ≡ K.faults out.old }
+{
+    send_pieces(&mut text, out)?;
+    send_piece(out, &text)?;
+    Ok(())
+}
+
 fn first_code(codes: &Codes) -> &[u8]
     ensures { result.now ≡ slice_index_or codes.now.codes 0 [] }
 {
@@ -168,9 +201,24 @@ fn send_code<K: Sink>(alloc: Global, code: &[u8], out: &mut K) -> Result<(), Tro
     ensures memory_is_no_fault { IsErrOf result Trouble.Memory
         → K.faults out.new ≡ K.faults out.old }
 {
-    let mut line = code_line(alloc, code)?;
-    send_pieces(&mut line, out)?;
-    send_piece(out, &line)?;
+    let line = code_line(alloc, code)?;
+    send_text(line, out)?;
+    Ok(())
+}
+
+fn send_shown<K: Sink>(alloc: Global, about: &About, out: &mut K) -> Result<(), Trouble>
+    ensures ok { OnOk result (Appends (K.written out.old) (K.written out.new)
+        (answer_text (Shown about.now))) }
+    ensures front { AppendsFront (K.written out.old) (K.written out.new)
+        (answer_text (Shown about.now)) }
+    ensures cause { HasCause (K.faults out.old) (K.faults out.new)
+        (IsErrOf result Trouble.Failed) }
+    ensures faultless { OnOk result (K.faults out.new ≡ K.faults out.old) }
+    ensures memory_is_no_fault { IsErrOf result Trouble.Memory
+        → K.faults out.new ≡ K.faults out.old }
+{
+    let text = shown(alloc, about)?;
+    send_text(text, out)?;
     Ok(())
 }
 
@@ -213,6 +261,15 @@ pub fn write_reply<K: Sink>(alloc: Global, reply: &Reply, out: &mut K) -> Result
         }
         Reply::Found(hits, lent, exact) => send_found(alloc, hits.as_slice(), *lent, *exact, out)?,
         Reply::Code(codes) => send_code(alloc, first_code(codes), out)?,
+        Reply::Shown(about) => send_shown(alloc, about, out)?,
+        Reply::Sharded(shards, total) => {
+            let line = sharded_line(alloc, *shards, *total)?;
+            send_piece(out, line.as_bytes())?;
+        }
+        Reply::Removed(removed, total) => {
+            let line = removed_line(alloc, *removed, *total)?;
+            send_piece(out, line.as_bytes())?;
+        }
         Reply::Refused(refusal) => send_piece(out, refused_line(*refusal).as_bytes())?,
     }
     Ok(())

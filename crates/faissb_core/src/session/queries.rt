@@ -1,10 +1,12 @@
 // Commands that ask the index for hits.
-ghost use Rattle.std.specs.Prelude.{◌≡◌, ◌≤◌, length, IfOk, IsTrue, Ok};
+ghost use Rattle.std.specs.Prelude.{◌≡◌, ◌≤◌, length, true, IfOk, IsTrue, Ok, Some};
 ghost use Rattle.bcodes.specs.Value.{code_size, is_trained};
-ghost use Rattle.bcodes.specs.Answers.{best, within, looked};
+ghost use Rattle.bcodes.specs.Settings.{multi_in};
+ghost use Rattle.bcodes.specs.Answers.{best, within, looked, scan_best};
 ghost use Rattle.bcodes.specs.Marks.{range_mark, search_mark};
 ghost use Rattle.any_index.specs.Labels.{finds_labels};
-ghost use Rattle.faissb_core.specs.Machine.Queries.{range, reconstruct, search};
+ghost use Rattle.growing_probe.specs.Grown.{flipped, grown};
+ghost use Rattle.faissb_core.specs.Machine.Queries.{nearest, range, reconstruct, search, show};
 ghost use Rattle.faissb_core.specs.Reply.Answer.{Found, reply_of};
 ghost use Rattle.faissb_core.specs.Session.Results.{Answers};
 
@@ -14,10 +16,11 @@ use crate::{K_LIMIT, RADIUS_LIMIT, Refusal, Reply};
 use any_index::AnyIndex;
 use bcodes::{BinaryIndex, Meter, Plain, Want, range_exact, search_exact};
 use factory_text::{Kind, Prefix, Spec};
+use multi_hash::Multi;
 use std::alloc::Global;
 
 // A search under a meter of its own, with its count and its mark.
-fn nearest<I: BinaryIndex<Led = Plain>>(
+fn marked_search<I: BinaryIndex<Led = Plain>>(
     alloc: Global,
     index: &I,
     q: &[u8],
@@ -45,7 +48,7 @@ fn nearest<I: BinaryIndex<Led = Plain>>(
 }
 
 // A range search, as above.
-fn nearer<I: BinaryIndex<Led = Plain>>(
+fn marked_range<I: BinaryIndex<Led = Plain>>(
     alloc: Global,
     index: &I,
     q: &[u8],
@@ -86,7 +89,7 @@ pub fn search<I: BinaryIndex<Led = Plain>>(
     if !index.trained() {
         return Err(Refusal::Untrained.into());
     }
-    let reply = nearest(alloc, index, &query, k as u32)?;
+    let reply = marked_search(alloc, index, &query, k as u32)?;
     Ok(reply)
 }
 
@@ -106,8 +109,52 @@ pub fn range<I: BinaryIndex<Led = Plain>>(
     if !index.trained() {
         return Err(Refusal::Untrained.into());
     }
-    let reply = nearer(alloc, index, &centre, radius as u32)?;
+    let reply = marked_range(alloc, index, &centre, radius as u32)?;
     Ok(reply)
+}
+
+// The nearest of all codes, with as many flips as that takes, and how many codes were looked at.
+fn grown_search(
+    alloc: Global,
+    index: &AnyIndex,
+    multi: &Multi<Plain>,
+    q: &[u8],
+    k: u32,
+) -> Result<Reply, Want>
+    requires multi { multi_in index.now ≡ Some multi.now }
+    requires code_size { length q.now ≡ code_size index.now }
+    requires k_positive { 1 ≤ k }
+    ensures { let flips = grown multi.now q.now k in IfOk result (λ reply. reply_of reply
+        ≡ Ok (Found (scan_best index.now q.now k) (looked (flipped multi.now flips) q.now) true)) }
+{
+    let _dim = index.dim();
+    let mut meter = Meter::new(Plain);
+    let mut hits = growing_probe::nearest(alloc, multi, q, k, &mut meter)?;
+    index.put_outer(&mut hits);
+    Ok(Reply::Found(hits, meter.lent(), true))
+}
+
+/// The command `nearest`.
+pub fn nearest(alloc: Global, index: &AnyIndex, k: u64, word: &[u8]) -> Result<Reply, Halt>
+    ensures { Answers (nearest k word.now index.now) result }
+{
+    let query = read_code(alloc, index.dim(), word)?;
+    let Some(multi) = index.as_multi() else {
+        return Err(Refusal::Kind.into());
+    };
+    if k < 1 || k > K_LIMIT {
+        return Err(Refusal::Value.into());
+    }
+    let reply = grown_search(alloc, index, multi, &query, k as u32)?;
+    Ok(reply)
+}
+
+/// The command `show`.
+pub fn show(alloc: Global, index: &AnyIndex) -> Result<Reply, Halt>
+    ensures { Answers (show index.now) result }
+{
+    let about = index.about(alloc)?;
+    Ok(Reply::Shown(about))
 }
 
 // Whether the code of a label is found, where the index is of a kind that may find it.

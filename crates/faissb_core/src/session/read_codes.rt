@@ -84,7 +84,7 @@ pub fn read_codes(alloc: Global, dim: Dim, words: &[u8]) -> Result<Codes, Halt>
     Ok(codes)
 }
 
-fn push_id(ids: &mut Vec<i64>, id: i64) -> Result<(), Want>
+pub fn push_id(ids: &mut Vec<i64>, id: i64) -> Result<(), Want>
     ensures { OnOk result (ids.new.items ≡ ids.old.items ++ id ∷ []) }
 {
     ids.push(id)?;

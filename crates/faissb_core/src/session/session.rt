@@ -2,9 +2,12 @@ ghost use Rattle.std.specs.Prelude.{◌≡◌, ◌⊎◌, ◌||◌, false, IsTru
 ghost use Rattle.std.specs.Prelude.{IfErr, IfOk, IsErrOf, OnErr, OnOk};
 ghost use Rattle.outside.specs.Causes.{HasCause};
 ghost use Rattle.outside.specs.Contents.{Files, HasFiles, Fits};
-ghost use Rattle.faissb_core.specs.Language.Read.{said, said_change, said_question, line_said};
-ghost use Rattle.faissb_core.specs.Machine.Legal.{IsLegalIndex};
+ghost use Rattle.faissb_core.specs.Language.Read.{said, said_change, said_question};
+ghost use Rattle.faissb_core.specs.Language.Read.{said_shard_question, line_said};
+ghost use Rattle.faissb_core.specs.Machine.Legal.{IsLegalState};
 ghost use Rattle.faissb_core.specs.Machine.Step.{ask as answer_of, change as change_of};
+ghost use Rattle.faissb_core.specs.Machine.Step.{ask_shards as shards_answer};
+ghost use Rattle.faissb_core.specs.Session.Followed.{state_of};
 ghost use Rattle.faissb_core.specs.Machine.Step.{command_outcome, line_outcome};
 ghost use Rattle.faissb_core.specs.Session.Results.{Answers, Changes, Leaves, settled};
 ghost use Rattle.faissb_core.specs.Session.Results.{MemoryOnlyIf};
@@ -12,10 +15,12 @@ ghost use Rattle.faissb_core.specs.Session.Results.{MemoryOnlyIf};
 use super::adding::{add, add_ids, give_centroids};
 use super::halt::Halt;
 use super::new::new_index;
-use super::queries::{range, reconstruct, search};
+use super::queries::{nearest, range, reconstruct, search, show};
+use super::removing::remove;
 use super::settings::{set_direct, set_max_codes, set_nflip, set_nprobe};
+use super::shard_group::ShardGroup;
 use super::stop::Stop;
-use crate::language::{Command, IndexChange, IndexQuestion, Line, read_line};
+use crate::language::{Command, IndexChange, IndexQuestion, Line, ShardQuestion, read_line};
 use crate::{Refusal, Reply};
 use any_index::AnyIndex;
 use bcodes::BinaryIndex;
@@ -23,10 +28,19 @@ use outside::Shelf;
 use std::alloc::Global;
 use std::marker::Model;
 
-/// The index that the commands of a script work on, if there is one.
-#[derive(Drop)]
+/// The index that the commands of a script work on, if there is one, and the shards.
 pub struct Session {
     index: Option<AnyIndex>,
+    shards: ShardGroup,
+}
+
+impl Drop for Session {
+    fn drop(self) {
+        let Session {
+            index: _index,
+            shards: _shards,
+        } = self;
+    }
 }
 
 impl Model for Session {
@@ -35,7 +49,7 @@ impl Model for Session {
 
     ghost Value = { State };
 
-    ghost view = { λ s. state_of s.index };
+    ghost view = { λ s. state_of s.index s.shards };
 }
 
 // What a change makes of the index.
@@ -51,6 +65,7 @@ fn change(alloc: Global, index: &mut AnyIndex, change: IndexChange<'_>) -> Resul
         IndexChange::Nflip(n) => set_nflip(index, n),
         IndexChange::MaxCodes(n) => set_max_codes(index, n),
         IndexChange::DirectMap(on) => set_direct(index, on),
+        IndexChange::Remove(selection) => remove(alloc, index, selection),
     }
 }
 
@@ -61,17 +76,34 @@ fn ask(alloc: Global, index: &AnyIndex, question: IndexQuestion<'_>) -> Result<R
     match question {
         IndexQuestion::Search(k, word) => search(alloc, index, k, word),
         IndexQuestion::Range(radius, word) => range(alloc, index, radius, word),
+        IndexQuestion::Nearest(k, word) => nearest(alloc, index, k, word),
         IndexQuestion::Reconstruct(label) => reconstruct(alloc, index, label),
+        IndexQuestion::Show => show(alloc, index),
     }
 }
 
-// What the index holds is legal: the fact for proofs.
-fn know_legal(index: &Option<AnyIndex>)
-    ensures { IsLegalIndex index.now }
+// What the shards answer.
+fn ask_shards(
+    alloc: Global,
+    shards: &ShardGroup,
+    question: ShardQuestion<'_>,
+) -> Result<Reply, Halt>
+    ensures { Answers (shards_answer (said_shard_question question.entry) shards.now) result }
+{
+    match question {
+        ShardQuestion::Search(k, word) => shards.search(alloc, k, word),
+        ShardQuestion::Range(radius, word) => shards.range(alloc, radius, word),
+    }
+}
+
+// The index and the shards are legal: the fact for proofs.
+fn know_legal(index: &Option<AnyIndex>, shards: &ShardGroup)
+    ensures { IsLegalState (state_of index.now shards.now) }
 {
     if let Some(index) = index {
         let _dim = index.dim();
     }
+    shards.know_legal();
 }
 
 // A refusal is a reply.
@@ -100,7 +132,10 @@ impl Session {
     pub fn new(_alloc: Global) -> Session
         ensures { result ≡ start }
     {
-        Session { index: None }
+        Session {
+            index: None,
+            shards: ShardGroup::new(),
+        }
     }
 
     // The command of a line.
@@ -112,6 +147,11 @@ impl Session {
         match command {
             Command::New(bits, factory) => {
                 self.index = Some(new_index(alloc, bits, factory)?);
+                Ok(Reply::Done)
+            }
+            Command::Shard => self.shards.take(alloc, &mut self.index),
+            Command::Unshard => {
+                self.shards = ShardGroup::new();
                 Ok(Reply::Done)
             }
             Command::Change(asked) => {
@@ -126,6 +166,7 @@ impl Session {
                 };
                 ask(alloc, index, question)
             }
+            Command::AskShards(question) => ask_shards(alloc, &self.shards, question),
         }
     }
 
@@ -193,7 +234,7 @@ impl Session {
         ensures memory_is_no_fault { IsErrOf result Stop.Memory
             → H.faults shelf.new ≡ H.faults shelf.old }
     {
-        know_legal(&self.index);
+        know_legal(&self.index, &self.shards);
         let reply = settle(self.obey(alloc, read_line(line)))?;
         Ok(reply)
     }

@@ -65,7 +65,7 @@ pub static ROWS: [Row; 8] = [
             ("nprobe 1 1", "refused line"),
             ("maxcodes", "refused line"),
             ("save f", "refused line"),
-            ("show", "refused line"),
+            ("show all", "refused line"),
         ],
         status: Status::Refused,
     },

@@ -1,3 +1,4 @@
+use Rattle.std.proofs.Common.{ap, not}
 use Rattle.faissb_core.proofs.SessionLemmas.LegalLemmas.{step_follows}
 use Rattle.faissb_core.proofs.laws.steps_keep_legal.Goals as goal
 
@@ -5,4 +6,5 @@ pub returns-clause-legal : goal.returns-clause-legal
 returns-clause-legal c = λ s files line legal. (step_follows s files line legal).legal
 
 pub returns-clause-index_stays : goal.returns-clause-index_stays
-returns-clause-index_stays c = λ s files line legal some. (step_follows s files line legal).some some
+returns-clause-index_stays c = λ s files line legal keeps some.
+    (step_follows s files line legal).some (ap not keeps) some

@@ -19,8 +19,7 @@ returns-clause-refused g c =
 pub returns-clause-marked : goal.returns-clause-marked
 returns-clause-marked g c =
     let settles : settled c.obey.result ≡ Ok c.in_ok-reply.reply = sym c.settle.ensures.value ∙ c.in_ok-reply.was in
-    let legal : IsLegalState c.args.self.now = subst IsLegalState c.self.view_is
-    (record { index = c.know_legal.ensures }) in
+    let legal : IsLegalState c.args.self.now = subst IsLegalState c.self.view_is c.know_legal.ensures in
     reply_is c.args.self.now (λ _. None) c.args.line.now _ legal
     (step_replies _ (λ _. None) c.args.line.now _ _ c.obey.result _ c.read_line.ensures
     (c.obey.ensures.ok (λ _. None)) c.obey.ensures.err settles)

@@ -1,6 +1,7 @@
+// Runs over devices that fail, and over reads and writes of all sizes.
 ghost use Rattle.std.specs.Prelude.{◌<◌};
 
-use crate::{Status, run, usage};
+use faissb_core::{Status, run, usage};
 use outside::{Failed, MemSink, MemSource, Source, SureShelf};
 use std::alloc::{AllocError, Global};
 use std::test::Fail;

@@ -1,4 +1,5 @@
-use super::*;
+// Lines that are applied one by one.
+use faissb_core::{Refusal, Reply, Session, write_reply};
 use outside::{MemSink, SureShelf};
 use std::test::Fail;
 
