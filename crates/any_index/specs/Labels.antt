@@ -1,5 +1,6 @@
 -- Labels, and the codes and the outer ids behind them.
-use Rattle.std.specs.Prelude.{ℕ, ℤ, pos, nat_abs, Bool, true, List, [], Option, None, Some, find, unwrap_or, slice_index_or}
+use Rattle.std.specs.Prelude.{ℕ, ℤ, pos, nat_abs, Bool, true, List, []}
+use Rattle.std.specs.Prelude.{Option, None, Some, find, unwrap_or, slice_index_or}
 use Rattle.std.specs.Option.{option_map}
 use Rattle.std.specs.Ordering.{int_eq}
 use Rattle.bcodes.specs.Value.{Row, Flat, Ivf, IndexValue, Bare, IdMap, rows_of}

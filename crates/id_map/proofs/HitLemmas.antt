@@ -10,57 +10,10 @@ use Rattle.bcodes.specs.Value.{Row, ListRow, Inner, Flat, Ivf, Hash, Multi, Inde
 use Rattle.bcodes.specs.Value.{IsPlace, count_of, numbered, row_of, rows_of_inner}
 use Rattle.bcodes.specs.Answers.{best, within, looked, hits, hit_of, outer, ranked_rows, probed_rows_inner}
 use Rattle.bcodes.specs.Answers.{is_probed_ivf, is_probed_hash, is_probed_multi}
-use Rattle.bcodes.proofs.OrderLemmas.{either}
+use Rattle.bcodes.proofs.RankedLemmas.{All-best, All-within}
 use Rattle.bcodes.proofs.FormLemmas.{best_map, looked_map}
 use Rattle.id_map.specs.Inside.{IsMapped}
 use Rattle.id_map.proofs.RowLemmas.{bare_is}
-
--- ---- where the labels of hits come from
-
-All-insert : (P : Hit → Type 0) (h : Hit) (hs : List Hit) → P h → All P hs → All P (insert_hit h hs)
-All-insert P h [] p a = All-cons P h [] p a
-All-insert P h (g ∷ gs) p a =
-    elim (either (is_above h g)) [
-      | inl e ↦ rw e (All-cons P g (insert_hit h gs) (All-head P g gs a) (All-insert P h gs p (All-tail P g gs a)))
-      | inr e ↦ rw e (All-cons P h (g ∷ gs) p a)
-    ]
-
-All-in_order : (P : Hit → Type 0) (hs : List Hit) → All P hs → All P (in_order hs)
-All-in_order P [] a = All-nil P
-All-in_order P (h ∷ hs) a = All-insert P h (in_order hs) (All-head P h hs a) (All-in_order P hs (All-tail P h hs a))
-
-unmapped : (P : Row → Type 0) (rows : List ListRow) → All P (map row_of rows) → All (λ r. P (row_of r)) rows
-unmapped P [] a = All-nil (λ r. P (row_of r))
-unmapped P (r ∷ rows) a = All-cons (λ s. P (row_of s)) r rows (All-head P (row_of r) (map row_of rows) a)
-    (unmapped P rows (All-tail P (row_of r) (map row_of rows) a))
-
--- what holds of each row holds of each probed row
-All-probed : (P : Row → Type 0) (v : Inner) (q : List ℕ) → All P (rows_of_inner v) → All P (probed_rows_inner v q)
-All-probed P (Flat v) q a = a
-All-probed P (Ivf v) q a =
-    All-map P row_of (filter (is_probed_ivf v q) v.rows)
-    (All-filter (is_probed_ivf v q) (λ r. P (row_of r)) v.rows (unmapped P v.rows a))
-All-probed P (Hash v) q a = All-filter (is_probed_hash v q) P v.rows a
-All-probed P (Multi v) q a = All-filter (is_probed_multi v q) P (numbered 0 v.codes) a
-
-pub All-ranked : (P : ℤ → Type 0) (q : List ℕ) (rows : List Row) → All (λ row. P row.label) rows
-    → All (λ h. P h.label) (ranked_rows q rows)
-All-ranked P q rows a = All-in_order (λ (h : Hit). P h.label) (map (hit_of q) rows)
-    (All-map (λ (h : Hit). P h.label) (hit_of q) rows a)
-
--- what holds of the label of each row holds of the label of each hit
-All-best : (P : ℤ → Type 0) (v : Inner) (q : List ℕ) (k : ℕ) → All (λ row. P row.label) (rows_of_inner v)
-    → All (λ h. P h.label) (best (Bare v) q k)
-unfolding best hits
-All-best P v q k a = All-take (λ (h : Hit). P h.label) k (ranked_rows q (probed_rows_inner v q))
-    (All-ranked P q (probed_rows_inner v q) (All-probed (λ row. P row.label) v q a))
-
-All-within : (P : ℤ → Type 0) (v : Inner) (q : List ℕ) (radius : ℕ) → All (λ row. P row.label) (rows_of_inner v)
-    → All (λ h. P h.label) (within (Bare v) q radius)
-unfolding within hits
-All-within P v q radius a =
-    All-filter (λ (h : Hit). nat_lt h.distance radius) (λ (h : Hit). P h.label) (ranked_rows q (probed_rows_inner v q))
-    (All-ranked P q (probed_rows_inner v q) (All-probed (λ row. P row.label) v q a))
 
 -- ---- answers and numbers read
 
@@ -91,7 +44,7 @@ pub best_places : (v : IndexValue) (ids : List ℤ) (q : List ℕ) (k : ℕ) →
 best_places v ids q k kept =
     rw kept.count
     (subst (λ (w : IndexValue). All (λ (h : Hit). IsPlace (count_of v) h.label) (best w q k)) (sym (bare_is v kept.bare))
-    (All-best (IsPlace (count_of v)) (inner_of v) q k kept.labels))
+    (All-best (IsPlace (count_of v)) (Bare (inner_of v)) q k refl kept.labels))
 
 pub within_places : (v : IndexValue) (ids : List ℤ) (q : List ℕ) (radius : ℕ) → IsMapped v ids
     → All (λ (h : Hit). IsPlace (length ids) h.label) (within v q radius)
@@ -99,7 +52,7 @@ within_places v ids q radius kept =
     rw kept.count
     (subst (λ (w : IndexValue). All (λ (h : Hit). IsPlace (count_of v) h.label) (within w q radius))
     (sym (bare_is v kept.bare))
-    (All-within (IsPlace (count_of v)) (inner_of v) q radius kept.labels))
+    (All-within (IsPlace (count_of v)) (Bare (inner_of v)) q radius refl kept.labels))
 
 -- ---- a list of hits of which the first i have their ids
 

@@ -13,6 +13,7 @@ use Rattle.bcodes.specs.Hits.{is_above, insert_hit, in_order}
 use Rattle.bcodes.specs.Value.{CodeList, Bare, Flat, numbered}
 use Rattle.bcodes.specs.Answers.{best, hit_of, ranked_rows}
 use Rattle.bcodes.proofs.OrderLemmas.{either, length-in_order}
+use Rattle.bcodes.proofs.RankedLemmas.{All-in_order}
 use Rattle.bcodes.proofs.FormLemmas.{best_flat}
 use Rattle.bcodes.proofs.NumberedLemmas.{length-numbered}
 use Rattle.ivf_index.specs.Near.{IsNumber, lists_by, nearest_by, front_by}
@@ -20,20 +21,6 @@ use Rattle.ivf_index.specs.Near.{IsNumber, lists_by, nearest_by, front_by}
 -- the number of a hit on a centroid
 abbrev pub number : Hit → ℕ
 number h = nat_abs h.label
-
-All-insert_hit : (P : Hit → Type 0) (h : Hit) (hs : List Hit) → P h → All P hs → All P (insert_hit h hs)
-All-insert_hit P h [] p all = All-cons P h [] p all
-All-insert_hit P h (g ∷ gs) p all =
-    elim (either (is_above h g)) [
-      | inl e ↦ rw e (All-cons P g (insert_hit h gs) (All-head P g gs all)
-          (All-insert_hit P h gs p (All-tail P g gs all)))
-      | inr e ↦ rw e (All-cons P h (g ∷ gs) p all)
-    ]
-
-pub All-in_order : (P : Hit → Type 0) (hs : List Hit) → All P hs → All P (in_order hs)
-All-in_order P [] all = all
-All-in_order P (h ∷ hs) all = All-insert_hit P h (in_order hs) (All-head P h hs all)
-    (All-in_order P hs (All-tail P h hs all))
 
 -- the labels of hits on centroids are their numbers
 numbers_below : (q : List ℕ) (i n : ℕ) (cs : List (List ℕ)) → i + length cs ≤ n

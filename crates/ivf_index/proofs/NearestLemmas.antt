@@ -19,7 +19,7 @@ use Rattle.code_pool.specs.Lists.{IsRun, run_rows}
 use Rattle.hit_lists.specs.Labelled.{hits_of}
 use Rattle.list_scan.proofs.RunLemmas.{distances_of, hits_of-rows}
 use Rattle.ivf_index.specs.Near.{IsFirstLeast, nearest_by}
-use Rattle.ivf_index.proofs.NearLemmas.{All-in_order}
+use Rattle.bcodes.proofs.RankedLemmas.{All-in_order}
 
 -- how far codes are from a query
 abbrev pub distances : List ℕ → List (List ℕ) → List ℕ

@@ -1,5 +1,6 @@
 -- The keys of codes under each map, the positions under a key, and what a query looks at.
-use Rattle.std.specs.Prelude.{ℕ, zero, suc, ◌+◌, ◌*◌, ◌==◌, ℤ, pos, List, [], length, map, min, slice_index, slice_index_or}
+use Rattle.std.specs.Prelude.{ℕ, zero, suc, ◌+◌, ◌*◌, ◌==◌, ℤ, pos, min}
+use Rattle.std.specs.Prelude.{List, [], length, map, slice_index, slice_index_or}
 use Rattle.std.specs.List.{filter, range_with_len}
 use Rattle.bcodes.specs.Bits.{key}
 use Rattle.bcodes.specs.Value.{MultiValue}

@@ -9,7 +9,7 @@ use Rattle.bcodes.specs.Value.{count_of, numbered}
 use Rattle.bcodes.specs.Settings.{multi_in}
 use Rattle.bcodes.specs.Answers.{looked, ranked_rows, relabelled, scan_best}
 use Rattle.bcodes.proofs.LegalLemmas.{count-le, looked-le}
-use Rattle.id_map.proofs.HitLemmas.{All-ranked}
+use Rattle.bcodes.proofs.RankedLemmas.{All-ranked}
 use Rattle.id_map.proofs.RowLemmas.{All-numbered}
 use Rattle.growing_probe.specs.Grown.{flipped}
 use Rattle.faissb_core.proofs.SessionLemmas.MarkLemmas.{same_multi}

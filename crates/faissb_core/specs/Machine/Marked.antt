@@ -62,7 +62,8 @@ AllReplies P s files (line ∷ more) =
     P line s done.reply × AllReplies P done.state done.files more
 
 abbrev pub AllMarkedAreScans : State → Files → List (List ℕ) → Type 0
-AllMarkedAreScans s files lines = AllReplies (λ line s reply. MarkedIsScan (scan_of (line_of line) s) reply) s files lines
+AllMarkedAreScans s files lines =
+    AllReplies (λ line s reply. MarkedIsScan (scan_of (line_of line) s) reply) s files lines
 
 -- a range search of a MultiHash, plain or under outer ids, whose radius is at most the number of maps times one more
 -- than the number of flips
