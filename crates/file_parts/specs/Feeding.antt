@@ -3,7 +3,7 @@ use Rattle.std.specs.Prelude.{◌≡◌, ◌<◌, ℕ, Bool, true, is_some, List
 use Rattle.std.specs.Prelude.{Some, None, Result, Ok, Err}
 use Rattle.std.specs.Borrow.{GName}
 use Rattle.outside.specs.Calls.{KeepsFiles}
-use Rattle.outside.specs.Causes.{HasCause}
+use Rattle.outside.specs.Causes.{CountsFailure}
 use Rattle.outside.specs.Contents.{Contents}
 use Rattle.file_parts.specs.declared.feed.Feed.{Feed}
 use Rattle.file_parts.specs.declared.file_fault.FileFault.{FileFault}
@@ -72,10 +72,10 @@ Decodes view (Ok x) read = read ≡ Ok (view x)
 Decodes view (Err e) read = GivesError e read
 
 -- The feed is over the same shelf, whose files stay and whose file is still being read; and its count of faults rose
--- where a call failed.
+-- where a call failed, and stays where none did.
 pub record StaysOver {H : Type 0} (contents : H → Option Contents) (is_reading : H → Bool) (faults : H → ℕ)
     (old new : Feed H) (failed : Type 0) : Type 0 where
   pub same_shelf : name_of new ≡ name_of old
   pub files : KeepsFiles (contents old.shelf.now) (contents new.shelf.now)
   pub reading : is_reading new.shelf.now ≡ is_reading old.shelf.now
-  pub cause : HasCause (faults old.shelf.now) (faults new.shelf.now) failed
+  pub cause : CountsFailure (faults old.shelf.now) (faults new.shelf.now) failed

@@ -2,7 +2,7 @@
 use Rattle.std.specs.Prelude.{◌≡◌, ℕ, List, ◌++◌, length, Bool, is_ok, Option, Some, None, Result}
 use Rattle.std.specs.Borrow.{GName}
 use Rattle.bcodes.specs.Ranges.{raised}
-use Rattle.outside.specs.Causes.{HasCause}
+use Rattle.outside.specs.Causes.{CountsFailure}
 use Rattle.outside.specs.Contents.{Files, Contents}
 use Rattle.outside.specs.declared.trouble.Trouble.{Trouble}
 use Rattle.file_parts.specs.declared.store.Store.{Store}
@@ -54,10 +54,10 @@ unfoldable pub behind : List ℕ → Written → Written
 behind bytes w = record { at = raised w.at (length bytes); made = put_behind bytes w.made }
 
 -- The store is over the same shelf, whose files stay; a file is still being made unless there was an error; and the
--- shelf's count of faults rose where a call failed.
+-- shelf's count of faults rose where a call failed, and stays where none did.
 pub record GoesOn {H : Type 0} (contents : H → Option Contents) (is_making : H → Bool) (faults : H → ℕ)
     (old new : Store H) (result : Result (Unit {0}) Trouble) (failed : Type 0) : Type 0 where
   pub same_shelf : name_of new ≡ name_of old
   pub files : files_in (contents new.shelf.now) ≡ files_in (contents old.shelf.now)
   pub making : is_making new.shelf.now ≡ is_ok result
-  pub cause : HasCause (faults old.shelf.now) (faults new.shelf.now) failed
+  pub cause : CountsFailure (faults old.shelf.now) (faults new.shelf.now) failed

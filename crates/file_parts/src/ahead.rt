@@ -1,7 +1,7 @@
 ghost use Rattle.std.specs.Prelude.{◌≡◌, ◌<◌, Ok, [], IsTrue, IsErrOf, length, min, take, drop};
 ghost use Rattle.std.specs.Prelude.{true};
 ghost use Rattle.outside.specs.Calls.{WhereTold};
-ghost use Rattle.outside.specs.Causes.{HasCause};
+ghost use Rattle.outside.specs.Causes.{CountsFailure};
 ghost use Rattle.file_parts.specs.Ahead.{Refills};
 
 use outside::{Shelf, Trouble};
@@ -58,7 +58,7 @@ impl Ahead {
         ensures contents { WhereTold (H.contents shelf.old) (H.contents shelf.new)
             (Refills self.old self.new result) }
         ensures reading { H.is_reading shelf.new ≡ H.is_reading shelf.old }
-        ensures cause { HasCause (H.faults shelf.old) (H.faults shelf.new)
+        ensures cause { CountsFailure (H.faults shelf.old) (H.faults shelf.new)
             (IsErrOf result Trouble.Failed) }
     {
         if self.start < self.end {

@@ -1,6 +1,6 @@
 ghost use Rattle.std.specs.Prelude.{◌≡◌, ◌≤◌, IfOk, IsErrOf, IsTrue, length};
 ghost use Rattle.outside.specs.Calls.{WhereTold};
-ghost use Rattle.outside.specs.Causes.{HasCause};
+ghost use Rattle.outside.specs.Causes.{CountsFailure};
 ghost use Rattle.file_parts.specs.Ahead.{Fills};
 
 use crate::ahead::Ahead;
@@ -18,7 +18,7 @@ pub(crate) fn fill<H: Shelf>(
     ensures contents { WhereTold (H.contents shelf.old) (H.contents shelf.new)
         (Fills ahead.old ahead.new into.new result) }
     ensures reading { H.is_reading shelf.new ≡ H.is_reading shelf.old }
-    ensures cause { HasCause (H.faults shelf.old) (H.faults shelf.new)
+    ensures cause { CountsFailure (H.faults shelf.old) (H.faults shelf.new)
         (IsErrOf result Trouble.Failed) }
 {
     let mut got = 0;

@@ -1,6 +1,6 @@
 ghost use Rattle.std.specs.Prelude.{◌≡◌, IfOk, IfSome, IsErrOf, IsTrue, vec_len};
 ghost use Rattle.outside.specs.Calls.{WhereTold};
-ghost use Rattle.outside.specs.Causes.{HasCause};
+ghost use Rattle.outside.specs.Causes.{CountsFailure};
 ghost use Rattle.file_parts.specs.Ahead.{GivesRun};
 
 use crate::ahead::{Ahead, PIECE};
@@ -21,7 +21,7 @@ pub(crate) fn read_run<H: Shelf>(
     ensures contents { WhereTold (H.contents shelf.old) (H.contents shelf.new)
         (GivesRun (λ bytes. bytes.items) ahead.old ahead.new count result) }
     ensures reading { H.is_reading shelf.new ≡ H.is_reading shelf.old }
-    ensures cause { HasCause (H.faults shelf.old) (H.faults shelf.new)
+    ensures cause { CountsFailure (H.faults shelf.old) (H.faults shelf.new)
         (IsErrOf result Trouble.Failed) }
 {
     let mut bytes = Vec::new(alloc);

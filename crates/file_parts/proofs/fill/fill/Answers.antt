@@ -26,5 +26,5 @@ loop-got-preserved g c =
           (length l.into - l.got) l.into buf _ _ _ l.invariant.within few l.invariant.so_far refilled
           c.take.ensures.front);
       reading = c.in_ok-refill.ensures.reading ∙ l.invariant.reading;
-      later = omega (arith, l.invariant.later, c.in_ok-refill.ensures.cause.later);
+      count_stays = search rules;
     }

@@ -9,7 +9,7 @@ invariant-loop-got g l = record {
   so_far : WhereTold (g.H.Shelf.contents l.initial.shelf) (g.H.Shelf.contents l.shelf)
       (SoFar l.initial.ahead l.ahead (take l.got l.into));
   reading : g.H.Shelf.is_reading l.shelf ≡ g.H.Shelf.is_reading l.initial.shelf;
-  later : g.H.Shelf.faults l.initial.shelf ≤ g.H.Shelf.faults l.shelf;
+  count_stays : g.H.Shelf.faults l.shelf ≡ g.H.Shelf.faults l.initial.shelf;
 }
 
 abbrev pub decreases-loop-got : goal.decreases-loop-got

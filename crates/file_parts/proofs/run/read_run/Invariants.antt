@@ -1,4 +1,4 @@
-use Rattle.std.proofs.Common.{◌≡◌, ◌+◌, ◌≤◌, length}
+use Rattle.std.proofs.Common.{◌≡◌, ◌+◌, length}
 use Rattle.outside.specs.Calls.{WhereTold}
 use Rattle.file_parts.proofs.FillLemmas.{SoFar}
 use Rattle.file_parts.proofs.run.read_run.Given as goal
@@ -9,7 +9,7 @@ invariant-loop-left g l = record {
   so_far : WhereTold (g.H.Shelf.contents l.initial.shelf) (g.H.Shelf.contents l.shelf)
       (SoFar l.initial.ahead l.ahead l.bytes.items);
   reading : g.H.Shelf.is_reading l.shelf ≡ g.H.Shelf.is_reading l.initial.shelf;
-  later : g.H.Shelf.faults l.initial.shelf ≤ g.H.Shelf.faults l.shelf;
+  count_stays : g.H.Shelf.faults l.shelf ≡ g.H.Shelf.faults l.initial.shelf;
 }
 
 abbrev pub decreases-loop-left : goal.decreases-loop-left
