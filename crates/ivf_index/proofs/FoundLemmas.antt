@@ -10,7 +10,7 @@ use Rattle.bcodes.specs.Value.{Row, ListRow, row_of}
 use Rattle.ivf_index.specs.Table.{list_of, on_list, IsTable}
 use Rattle.flip_walk.specs.Patterns.{under}
 use Rattle.code_pool.specs.Lists.{no_row}
-use Rattle.ivf_index.specs.Direct.{IsDirect, IsDirectOf, has_map, entries_or}
+use Rattle.ivf_index.specs.Direct.{IsPlaced, IsDirect, IsDirectOf, has_map, entries_or}
 use Rattle.ivf_index.specs.Found.{code_labelled}
 use Rattle.ivf_index.proofs.DirectLemmas.{label_on}
 use Rattle.ivf_index.proofs.NumberingLemmas.{labelled, labelled-cons, int_eq_cases, here, not_here}
@@ -111,39 +111,57 @@ parted : (e list offset : ℕ) → e ≡ list * 4294967296 + offset → offset <
 parted e list offset is low = (omega arith, omega arith)
 
 -- the parts of an entry
-abbrev pub list_in : List ℕ → ℕ → ℕ
-list_in entries label = get_or entries label 0 / 4294967296
+abbrev pub list_in : ℕ → ℕ
+list_in e = e / 4294967296
 
-abbrev pub offset_in : List ℕ → ℕ → ℕ
-offset_in entries label = get_or entries label 0 % 4294967296
+abbrev pub offset_in : ℕ → ℕ
+offset_in e = e % 4294967296
 
-found_at : (entries : List ℕ) (nlist label : ℕ) (order : List ℕ) (lists : ℕ → List Row) (rows : List ListRow)
-    → IsTable order lists rows → ((l : ℕ) → length (lists l) < 4294967296) → IsDirect entries nlist lists rows
-    → label < length rows
-    → IsFound nlist label (list_in entries label) (offset_in entries label) lists rows
-found_at entries nlist label order lists rows t few d h =
-    let at = d.placed label (omega (arith, h, d.count)) in
-    let parts = parted (get_or entries label 0) at.list at.offset at.is (omega (arith, at.within, few at.list)) in
+-- the row of an entry
+pub found_at : (nlist label e : ℕ) (order : List ℕ) (lists : ℕ → List Row) (rows : List ListRow)
+    → IsTable order lists rows → ((l : ℕ) → length (lists l) < 4294967296)
+    → IsPlaced (on_list rows) nlist label e → labelled (pos label) (map label_on rows) ≡ 1
+    → IsFound nlist label (list_in e) (offset_in e) lists rows
+found_at nlist label e order lists rows t few at once =
     let here : lists at.list ≡ on_list rows at.list = t.parts at.list in
-    let once : labelled (pos label) (map label_on rows)
-    ≡ 1 = d.numbering label (omega (arith, h, length-map rows label_on)) in
+    let within : at.offset < length (lists at.list) = omega (arith, at.within, ap length here) in
+    let parts = parted e at.list at.offset at.is (omega (arith, within, few at.list)) in
     let this : IsFound nlist label at.list at.offset lists rows = record {
       list_below = at.list_below;
-      within = at.within;
+      within = within;
       code = ap (λ (rs : List Row). (get_or rs at.offset no_row).code) here
-          ∙ sym (code_on label rows at.list at.offset (omega (arith, at.within, ap length here))
-          (ap (λ (rs : List Row). (get_or rs at.offset no_row).label) (sym here) ∙ at.label_is) once);
+          ∙ sym (code_on label rows at.list at.offset at.within at.label_is once);
     } in
-    subst (λ (l : ℕ). IsFound nlist label l (offset_in entries label) lists rows) (sym parts.0)
+    subst (λ (l : ℕ). IsFound nlist label l (offset_in e) lists rows) (sym parts.0)
     (subst (λ (o : ℕ). IsFound nlist label at.list o lists rows) (sym parts.1) this)
 
-pub found : (entries : Option (List ℕ)) (nlist label : ℕ) (order : List ℕ) (lists : ℕ → List Row)
-    (rows : List ListRow) → IsTable order lists rows → ((l : ℕ) → length (lists l) < 4294967296)
-    → IsDirectOf entries nlist lists rows → has_map entries ≡ true → label < length rows
-    → (label < length (entries_or entries)) × IsFound nlist label (list_in (entries_or entries) label)
-    (offset_in (entries_or entries) label) lists rows
-found None nlist label order lists rows t few d on h = absurd (true≢false (sym on))
-found (Some entries) nlist label order lists rows t few d on h = (
-  omega (arith, h, d.count),
-  found_at entries nlist label order lists rows t few d h,
-)
+-- the entry of a label, and that the label comes once
+pub record IsMappedOnce (nlist label : ℕ) (entries : List ℕ) (rows : List ListRow) : Type 0 where
+  pub within : label < length entries
+  pub placed : IsPlaced (on_list rows) nlist label (get_or entries label 0)
+  pub once : labelled (pos label) (map label_on rows) ≡ 1
+
+mapped_at : (entries : List ℕ) (nlist label : ℕ) (order : List ℕ) (lists : ℕ → List Row) (rows : List ListRow)
+    → IsTable order lists rows → IsDirect entries nlist lists rows → label < length rows
+    → IsMappedOnce nlist label entries rows
+mapped_at entries nlist label order lists rows t d h =
+    let at = d.placed label (omega (arith, h, d.count)) in
+    let here : lists at.list ≡ on_list rows at.list = t.parts at.list in
+    record {
+      within = omega (arith, h, d.count);
+      placed = record {
+        list = at.list;
+        offset = at.offset;
+        is = at.is;
+        list_below = at.list_below;
+        within = omega (arith, at.within, ap length here);
+        label_is = ap (λ (rs : List Row). (get_or rs at.offset no_row).label) (sym here) ∙ at.label_is;
+      };
+      once = d.numbering label (omega (arith, h, length-map rows label_on));
+    }
+
+pub mapped_once : (entries : Option (List ℕ)) (nlist label : ℕ) (order : List ℕ) (lists : ℕ → List Row)
+    (rows : List ListRow) → IsTable order lists rows → IsDirectOf entries nlist lists rows
+    → has_map entries ≡ true → label < length rows → IsMappedOnce nlist label (entries_or entries) rows
+mapped_once None nlist label order lists rows t d on h = absurd (true≢false (sym on))
+mapped_once (Some entries) nlist label order lists rows t d on h = mapped_at entries nlist label order lists rows t d h

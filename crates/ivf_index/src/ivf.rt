@@ -7,6 +7,7 @@ ghost use Rattle.bcodes.specs.Ranges.{load_limit, raised};
 ghost use Rattle.bcodes.specs.Value.{empty_ivf, is_trained, labels_from, weight, IsLegalIvf};
 ghost use Rattle.bcodes.specs.Value.{IsNumbering, Ivf as IvfForm, Bare};
 ghost use Rattle.bcodes.specs.Answers.{best, looked, near, paired, within};
+ghost use Rattle.ivf_index.specs.Direct.{IsPlaced};
 ghost use Rattle.ivf_index.specs.Table.{on_list, put_row, put_rows};
 ghost use Rattle.ivf_index.specs.Found.{code_labelled};
 ghost use Rattle.code_pool.specs.Lists.{IsRun, no_list};
@@ -281,6 +282,13 @@ impl<L: Ledger> Ivf<L> {
         Ok((count - self.order.len(0)) as u64)
     }
 
+    /// The quantizer, which holds the centroids in their order.
+    pub fn quantizer(&self) -> &Flat<L>
+        ensures { result.now ≡ record { dim = self.now.dim; codes = self.now.centroids } }
+    {
+        &self.quantizer
+    }
+
     /// The bytes of centroid `i`. The meter's `lent` rises by 1.
     pub fn centroid(&self, i: u32, meter: &mut Meter<L>) -> &[u8]
         requires { i < length self.now.centroids }
@@ -320,8 +328,18 @@ impl<L: Ledger> Ivf<L> {
         ensures code { result.now ≡ code_labelled self.now.rows label }
         ensures lent { meter.new ≡ record meter.old { lent = raised meter.old.lent 1 } }
     {
-        let (list, offset) = place_of(entry_of(&self.direct, label));
+        let (list, offset) = place_of(self.place(label));
         self.lists.lend_one(list, offset, meter).codes
+    }
+
+    /// The entry of a label in the direct map: the number of its row's list times 2^32, plus the
+    /// row's place on that list.
+    pub fn place(&self, label: u64) -> u64
+        requires direct { self.now.direct ≡ true }
+        requires within { label < length self.now.rows }
+        ensures { IsPlaced (on_list self.now.rows) self.now.nlist label result }
+    {
+        entry_of(&self.direct, label)
     }
 
     /// Keeps a direct map from labels to rows, or gives it up, which takes no memory. A map is made

@@ -152,6 +152,8 @@ fn check_direct<R: Abort>(rt: &R, alloc: Global, index: &mut Ivf<Plain>) -> Resu
     assert_eq!(rt; index.code_of(0, &mut meter), &[0x01][..]);
     assert_eq!(rt; index.code_of(1, &mut meter), &[0xfe][..]);
     assert_eq!(rt; meter.lent(), 2);
+    assert_eq!(rt; (index.place(0), index.place(1)), (0, 4_294_967_296));
+    assert_eq!(rt; index.quantizer().count(), 2);
     index.set_direct(false)?;
     add(rt, alloc, index, &[1], &[0x03])?;
     assert_eq!(rt; index.set_direct(true), Err(DirectError::NotSequential));
