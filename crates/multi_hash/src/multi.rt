@@ -173,6 +173,13 @@ impl<L: Ledger> Multi<L> {
         self.storage.code(p, meter)
     }
 
+    /// The Flat in which the codes stand, each at its position.
+    pub fn storage(&self) -> &Flat<L>
+        ensures { result.now ≡ record { dim = self.now.dim; codes = self.now.codes } }
+    {
+        &self.storage
+    }
+
     /// The number of buckets of a map: of distinct keys of the codes.
     pub fn buckets(&self, map: u32) -> usize
         requires { map < self.now.nhash }

@@ -202,6 +202,7 @@ fn finds_buckets_by_their_keys(rt: HostRuntime) -> Result<(), Fail> {
     assert!(rt; index.count() == 3);
     assert_eq!(rt; index.code(2, &mut meter), &[0xff, 0xff][..]);
     assert_eq!(rt; (meter.lent(), meter.asked()), (1, 6));
+    assert_eq!(rt; index.storage().count(), 3);
     Ok(())
 }
 
