@@ -23,17 +23,23 @@ use Rattle.file_parts.specs.declared.role.Role.{Role}
 use Rattle.file_parts.specs.declared.role.Role.TheVariants.{Outermost, Within, Quantizer}
 use Rattle.file_parts.proofs.Reading.{spells-split, spells-join, one_check, two_checks, read-decided}
 use Rattle.index_files.specs.Parts.{◌▸◌, Each, Signed, Vector, Head, HeadWhere}
-use Rattle.index_files.specs.File.{letters_of, map_letters, Rest, settled_inner, settled}
+use Rattle.index_files.specs.File.{letters_of, map_letters, Rest, settled_inner, settled, IsFile}
 use Rattle.index_files.specs.Letters.{start_of, is_known, is_index, is_plain, letters}
-use Rattle.index_files.specs.FileFormat.{body, map_ids, id_count_field, map_body, inside, map_start, index, file_of}
+use Rattle.index_files.specs.FileFormat.{body, map_ids, id_count_field, map_body, inside, map_start, index, file}
 use Rattle.index_files.specs.declared.kind_name.KindName.{KindName}
 use Rattle.index_files.specs.declared.kind_name.KindName.TheVariants as named
 use Rattle.index_files.specs.declared.start.Start.{Start}
 use Rattle.index_files.specs.declared.start.Start.TheVariants.{Plain, Mapped, NotRead, Unknown}
-use Rattle.index_files.specs.Laws.{name_of, FitsRole, IsBodyRole, IsInside, IsFileOf, IsDecidedFile}
+use Rattle.index_files.specs.Laws.{FitsRole, IsBodyRole, IsInside, IsDecidedFile}
 use Rattle.index_files.proofs.Heads.{IsHeader, header-found, header-again, pass_one, pass_two}
 use Rattle.index_files.proofs.FlatFiles.{free_flag, is_dim-again}
 use Rattle.index_files.proofs.Elements.{IsBytes, front-bytes, back-bytes, repeated-found, repeated-again}
+
+abbrev pub name_of : Inner → KindName
+name_of (Flat v) = named.Flat
+name_of (Ivf v) = named.Ivf
+name_of (Hash v) = named.Hash
+name_of (Multi v) = named.Multi
 
 abbrev pub kind_letters : KindName → List ℕ
 kind_letters named.Flat = codes "IBxF"
@@ -198,16 +204,16 @@ bare-is v w e = cc
 map-is : (name : MapName) (v w : Inner) (ids : List ℤ) → IdMap name v ids ≡ IdMap name w ids → v ≡ w
 map-is name v w ids e = cc
 
-module _ (reads : KindName → Bool) (laws : (kind : KindName) → reads kind ≡ true → KindLaw kind) where
+module _ (law : (kind : KindName) → KindLaw kind) where
   pub map-found : (name : MapName) (kind : KindName) (h : HeadValue) (bytes : List ℕ) (v : IndexValue)
-      → reads kind ≡ true → IsBytes bytes → Spells (map_body name kind h.dim h.count) bytes v
+      → IsBytes bytes → Spells (map_body name kind h.dim h.count) bytes v
       → (w : Inner) × (ids : List ℤ) × (v ≡ IdMap name w ids) × (name_of w ≡ kind)
       × (dim_of_inner w ≡ h.dim) × (count_of_inner w ≡ h.count) × IsLegalMap w ids
       × (settled_inner w ≡ w) × ◌▸◌ (Rest w) (Vector (Signed 8) ids) bytes
   unfolding map_body id_count_field
-  map-found name kind h bytes v is fits e =
+  map-found name kind h bytes v fits e =
       let s = spells-split (body kind (Within h.dim h.count)) (map_ids name h.count) bytes v e in
-      let b = (laws kind is).found (Within h.dim h.count) s.front s.value tt
+      let b = (law kind).found (Within h.dim h.count) s.front s.value tt
       (front-bytes bytes s.front s.back s.parts fits) s.first in
       let m = s.more in
       let t = spells-split (repeated h.count (signed 8 no_check)) (λ zs. done (IdMap name s.value zs)) m.1 v m.5 in
@@ -247,16 +253,16 @@ module _ (reads : KindName → Bool) (laws : (kind : KindName) → reads kind �
       )
 
   inside-found : (name : MapName) (h : HeadValue) (head : List ℕ) (bytes : List ℕ) (v : IndexValue)
-      → HeadWhere (h.flag ≡ true) h.dim h.count head → IsBytes bytes → Spells (map_start reads name h) bytes v
-      → IsFileOf reads (map_letters name ++ (head ++ bytes)) v
+      → HeadWhere (h.flag ≡ true) h.dim h.count head → IsBytes bytes → Spells (map_start name h) bytes v
+      → IsFile v (map_letters name ++ (head ++ bytes))
   unfolding settled letters
   inside-found name h head bytes v spelled fits (front, back, parts, len, pass, more) =
-      go (start_of front) (start-is front) (expected-is (is_plain reads) (start_of front) _ _ pass) more
+      go (start_of front) (start-is front) (expected-is is_plain (start_of front) _ _ pass) more
     where
-      go : (s : Start) → IsStart s front → is_plain reads s ≡ true → Spells (inside name h s) back v
-          → IsFileOf reads (map_letters name ++ (head ++ bytes)) v
-      go (Plain kind) is read_it e =
-          let m = map-found name kind h back v read_it (back-bytes bytes front back parts fits) e in
+      go : (s : Start) → IsStart s front → is_plain s ≡ true → Spells (inside name h s) back v
+          → IsFile v (map_letters name ++ (head ++ bytes))
+      go (Plain kind) is taken e =
+          let m = map-found name kind h back v (back-bytes bytes front back parts fits) e in
           let w = m.0 in
           let p = m.8 in
           let is_letters : front ≡ letters_of w = is ∙ ap kind_letters (sym m.3) ∙ letters-kind w in
@@ -264,70 +270,61 @@ module _ (reads : KindName → Bool) (laws : (kind : KindName) → reads kind �
           parts ∙ ap (λ (b : List ℕ). front ++ b) p.2 ∙ sym (append_assoc front p.0 p.1) in
           let same : Head (dim_of_inner w) (count_of_inner w) head =
           rw (m.4, m.5) (free_flag (h.flag ≡ true) h.dim h.count head spelled) in
-          let made : IsFileOf reads (map_letters name ++ (head ++ bytes)) (IdMap name w m.1) = record {
-            kind = rw m.3 read_it;
-            file = record {
-              legal = m.6;
-              settled = ap (λ (u : Inner). IdMap name u m.1) m.7;
-              body = (
-                map_letters name,
-                head ++ bytes,
-                refl,
-                refl,
-                (head, bytes, refl, same, (front ++ p.0, p.1, whole, (front, p.0, refl, is_letters, p.3), p.4)),
-              );
-            };
+          let made : IsFile (IdMap name w m.1) (map_letters name ++ (head ++ bytes)) = record {
+            legal = m.6;
+            settled = ap (λ (u : Inner). IdMap name u m.1) m.7;
+            body = (
+              map_letters name,
+              head ++ bytes,
+              refl,
+              refl,
+              (head, bytes, refl, same, (front ++ p.0, p.1, whole, (front, p.0, refl, is_letters, p.3), p.4)),
+            );
           } in
-          subst (IsFileOf reads (map_letters name ++ (head ++ bytes))) (sym m.2) made
+          subst (λ (u : IndexValue). IsFile u (map_letters name ++ (head ++ bytes))) (sym m.2) made
       go (Mapped other) is non e = absurd cc
       go NotRead is non e = absurd cc
       go Unknown is non e = absurd cc
 
-  pub file-found : (bytes : List ℕ) (v : IndexValue) → IsBytes bytes → Spells (file_of reads) bytes v
-      → IsFileOf reads bytes v
-  unfolding file_of settled letters
+  pub file-found : (bytes : List ℕ) (v : IndexValue) → IsBytes bytes → Spells file bytes v → IsFile v bytes
+  unfolding file settled letters
   file-found bytes v fits (front, back, parts, len, pass, more) =
-      go (start_of front) (start-is front) (expected-is (is_index reads) (start_of front) _ _ pass) more
+      go (start_of front) (start-is front) (expected-is is_index (start_of front) _ _ pass) more
     where
       after : IsBytes back
       after = back-bytes bytes front back parts fits
 
-      go : (s : Start) → IsStart s front → is_index reads s ≡ true → Spells (index reads s) back v
-          → IsFileOf reads bytes v
-      go (Plain kind) is read_it e =
+      go : (s : Start) → IsStart s front → is_index s ≡ true → Spells (index s) back v → IsFile v bytes
+      go (Plain kind) is taken e =
           let s = spells-split (body kind Outermost) (λ w. done (Bare w)) back v e in
           let all = at_end back s.front s.back s.parts s.more.0 in
-          let b = (laws kind read_it).found Outermost back s.value tt after
+          let b = (law kind).found Outermost back s.value tt after
           (subst (λ (b : List ℕ). Spells (body kind Outermost) b s.value) (sym all) s.first) in
           let is_letters : front ≡ letters_of s.value =
           is ∙ ap kind_letters (sym b.is_kind) ∙ letters-kind s.value in
-          let made : IsFileOf reads bytes (Bare s.value) = record {
-            kind = rw b.is_kind read_it;
-            file = record {
-              legal = b.legal;
-              settled = ap (λ (u : Inner). Bare u) b.rows;
-              body =
-                  (front, back, parts, is_letters, b.rest);
-            };
+          let made : IsFile (Bare s.value) bytes = record {
+            legal = b.legal;
+            settled = ap (λ (u : Inner). Bare u) b.rows;
+            body = (front, back, parts, is_letters, b.rest);
           } in
-          subst (IsFileOf reads bytes) s.more.1 made
-      go (Mapped name) is read_it e =
-          let s = spells-split (header Outermost) (map_start reads name) back v e in
+          subst (λ (u : IndexValue). IsFile u bytes) s.more.1 made
+      go (Mapped name) is taken e =
+          let s = spells-split (header Outermost) (map_start name) back v e in
           let hd = header-found Outermost s.front s.value s.first in
           let whole : map_letters name ++ (s.front ++ s.back) ≡ bytes =
           ap (λ (b : List ℕ). b ++ (s.front ++ s.back)) (sym is)
           ∙ ap (λ (b : List ℕ). front ++ b) (sym s.parts) ∙ sym parts in
-          subst (λ (b : List ℕ). IsFileOf reads b v) whole
+          subst (IsFile v) whole
           (inside-found name s.value s.front s.back v hd.1 (back-bytes back s.front s.back s.parts after) s.more)
       go NotRead is non e = absurd cc
       go Unknown is non e = absurd cc
 
-  map-again : (name : MapName) (w : Inner) (ids : List ℤ) (bytes : List ℕ) → reads (name_of w) ≡ true
+  map-again : (name : MapName) (w : Inner) (ids : List ℤ) (bytes : List ℕ)
       → IsLegalMap w ids → settled_inner w ≡ w → ◌▸◌ (Rest w) (Vector (Signed 8) ids) bytes
       → Spells (map_body name (name_of w) (dim_of_inner w) (count_of_inner w)) bytes (IdMap name w ids)
   unfolding map_body id_count_field
-  map-again name w ids bytes is legal rows (front, back, parts, rest, (cnt, els, p5, num, each)) =
-      let b = (laws (name_of w) is).again (Within (dim_of_inner w) (count_of_inner w)) front w tt
+  map-again name w ids bytes legal rows (front, back, parts, rest, (cnt, els, p5, num, each)) =
+      let b = (law (name_of w)).again (Within (dim_of_inner w) (count_of_inner w)) front w tt
       (record {
         is_kind = refl;
         rest = rest;
@@ -350,33 +347,33 @@ module _ (reads : KindName → Bool) (laws : (kind : KindName) → reads kind �
       rw parts (spells-join (body (name_of w) (Within (dim_of_inner w) (count_of_inner w)))
       (map_ids name (count_of_inner w)) front back w (IdMap name w ids) b more)
 
-  pub file-again : (bytes : List ℕ) (v : IndexValue) → IsFileOf reads bytes v → Spells (file_of reads) bytes v
-  unfolding file_of settled
+  pub file-again : (bytes : List ℕ) (v : IndexValue) → IsFile v bytes → Spells file bytes v
+  unfolding file settled
   file-again bytes (Bare w) h =
-      let (front, back, parts, is, rest) = h.file.body in
+      let (front, back, parts, is, rest) = h.body in
       let kind = name_of w in
-      let b = (laws kind h.kind).again Outermost back w tt
+      let b = (law kind).again Outermost back w tt
       (record {
         is_kind = refl;
         rest = rest;
-        legal = h.file.legal;
-        rows = bare-is _ _ h.file.settled;
+        legal = h.legal;
+        rows = bare-is _ _ h.settled;
         fits =
             tt;
       }) in
-      let more : Spells (index reads (Plain kind)) (back ++ []) (Bare w) =
+      let more : Spells (index (Plain kind)) (back ++ []) (Bare w) =
       spells-join (body kind Outermost) (λ v. done (Bare v)) back [] w (Bare w) b (refl, refl) in
       let e : start_of front ≡ Plain kind = ap start_of is ∙ start-of-kind w in
-      rw parts (letters-again (is_index reads) (index reads) (Plain kind) front back (Bare w) (ap length is
-      ∙ four-kind w) e h.kind (subst (λ (b : List ℕ). Spells (index reads (Plain kind)) b (Bare w))
+      rw parts (letters-again is_index index (Plain kind) front back (Bare w) (ap length is
+      ∙ four-kind w) e refl (subst (λ (b : List ℕ). Spells (index (Plain kind)) b (Bare w))
       (append-nil back) more))
   file-again bytes (IdMap name w ids) h =
       let (front, back, parts, is, (head, after, p2, spelled, (bd, vec, p3, (lf, lr, p4, lis, rest), vector))) =
-      h.file.body in
+      h.body in
       let kind = name_of w in
       let hd = header-again Outermost (Unit {0}) (dim_of_inner w) (count_of_inner w) head
-      (inner-header w h.file.legal.inner) spelled in
-      let m = map-again name w ids (lr ++ vec) h.kind h.file.legal (map-is _ _ _ _ h.file.settled) (
+      (inner-header w h.legal.inner) spelled in
+      let m = map-again name w ids (lr ++ vec) h.legal (map-is _ _ _ _ h.settled) (
         lr,
         vec,
         refl,
@@ -385,23 +382,23 @@ module _ (reads : KindName → Bool) (laws : (kind : KindName) → reads kind �
       ) in
       let e : start_of lf ≡ Plain kind = ap start_of lis ∙ start-of-kind w in
       let hv : HeadValue = record { dim = dim_of_inner w; count = count_of_inner w; flag = hd.flag } in
-      let inner : Spells (map_start reads name hv) (lf ++ (lr ++ vec)) (IdMap name w ids) =
-      letters-again (is_plain reads) (inside name hv) (Plain kind) lf (lr ++ vec) (IdMap name w ids)
-      (ap length lis ∙ four-kind w) e h.kind m in
+      let inner : Spells (map_start name hv) (lf ++ (lr ++ vec)) (IdMap name w ids) =
+      letters-again is_plain (inside name hv) (Plain kind) lf (lr ++ vec) (IdMap name w ids)
+      (ap length lis ∙ four-kind w) e refl m in
       let regroup : lf ++ (lr ++ vec) ≡ after =
       sym (append_assoc lf lr vec) ∙ ap (λ (b : List ℕ). b ++ vec) (sym p4) ∙ sym p3 in
-      let outer : Spells (index reads (Mapped name)) (head ++ after) (IdMap name w ids) =
-      spells-join (header Outermost) (map_start reads name) head after hv (IdMap name w ids) hd.spells
-      (subst (λ (b : List ℕ). Spells (map_start reads name hv) b (IdMap name w ids)) regroup inner) in
+      let outer : Spells (index (Mapped name)) (head ++ after) (IdMap name w ids) =
+      spells-join (header Outermost) (map_start name) head after hv (IdMap name w ids) hd.spells
+      (subst (λ (b : List ℕ). Spells (map_start name hv) b (IdMap name w ids)) regroup inner) in
       let s : start_of front ≡ Mapped name = ap start_of is ∙ start-of-map name in
-      rw parts (letters-again (is_index reads) (index reads) (Mapped name) front back (IdMap name w ids) (ap length is
-      ∙ four-map name) s refl (subst (λ (b : List ℕ). Spells (index reads (Mapped name)) b
+      rw parts (letters-again is_index index (Mapped name) front back (IdMap name w ids) (ap length is
+      ∙ four-map name) s refl (subst (λ (b : List ℕ). Spells (index (Mapped name)) b
       (IdMap name w ids)) (sym p2) outer))
 
   -- each byte list is a file of exactly one value, or has exactly one fault
-  pub file-decided : (bytes : List ℕ) → IsBytes bytes → IsDecidedFile reads bytes
+  pub file-decided : (bytes : List ℕ) → IsBytes bytes → IsDecidedFile bytes
   file-decided bytes fits =
-      elim (read-decided (file_of reads) bytes) [
+      elim (read-decided file bytes) [
         | inl h ↦ inl (record {
           value = h.value;
           stands = file-found bytes h.value fits h.stands;

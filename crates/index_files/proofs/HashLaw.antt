@@ -29,7 +29,9 @@ use Rattle.hash_index.specs.Keys.{hash_keys, bucket, key_of}
 use Rattle.index_files.specs.Canon.{bit_length}
 use Rattle.index_files.specs.File.{HoldsBuckets, hash_bits, BucketPart, HashRest, settled_inner}
 use Rattle.index_files.specs.FlatFormat.{is_inside, is_no_place}
-use Rattle.index_files.specs.HashFormat.{KeySize, buckets_in, bucket_rows, hash_body}
+use Rattle.index_files.specs.HashFormat.{KeySize, buckets_in, bucket_rows, all_rows, hash_body, hash_rest, b_field}
+use Rattle.index_files.specs.HashFormat.{nflip_field, hash_buckets, bucket_count_field, width_field, buckets_of}
+use Rattle.index_files.specs.HashFormat.{known_count, run_field}
 use Rattle.index_files.specs.declared.kind_name.KindName.TheVariants as named
 use Rattle.index_files.specs.FileFormat.{body}
 use Rattle.index_files.specs.Laws.{FitsRole, IsBodyRole}
@@ -42,7 +44,7 @@ use Rattle.index_files.proofs.HashGroups.{NewKeys, keys_of, bucket_size, in_buck
 use Rattle.index_files.proofs.HashGroups.{together-keys, own-key-parts, keys-are, all-keys, keys-new, buckets-keyed}
 use Rattle.index_files.proofs.HashRun.{sizes_of, RunPasses, run-passes, passes-run, run_bits, at-run, run-width}
 use Rattle.index_files.proofs.HashRun.{count-buckets, run-packed, RowPasses, BucketRead, bucket-found, bucket-again}
-use Rattle.index_files.proofs.PackedLaws.{At, Fits, packed-again}
+use Rattle.bit_strings.proofs.PackedLemmas.{At, Fits, packed-again}
 use Rattle.index_files.proofs.Width.{width-is, width-only, max-below, below-max}
 use Rattle.index_files.proofs.IvfFacts.{place-found, place-again, below-place}
 use Rattle.index_files.proofs.IvfAgain.{all-unmap}
@@ -221,7 +223,8 @@ grouped w e = ap (λ (rows : List Row). Hash (record w { rows = rows })) e
 
 pub hash-found : (role : Role) (bytes : List ℕ) (v : HashValue) → IsBodyRole role → IsBytes bytes
     → Spells (hash_body role) bytes v → HashRead role v bytes
-unfolding hash_body
+unfolding hash_body hash_rest b_field nflip_field hash_buckets bucket_count_field width_field buckets_of known_count
+    run_field all_rows
 hash-found role bytes v r fits0 spelled =
     let s = spells-split (header role) _ bytes v spelled in
     let h = s.value in
@@ -260,12 +263,20 @@ hash-found role bytes v r fits0 spelled =
     let nflip-most : nflip ≤ b = ltb-false b nflip (one_check _ _ c2) in
     let size : number_of 8 b5 ≡ ((b + n) * buckets + 7) / 8 = eqb-true _ _ (not-false _ (one_check _ _ c5)) in
     let passes = run-passes b n buckets h.count run c6 in
-    let e = spells-split (each ps (bucket_rows role (h.dim / 8) h.count b)) _ r6 v m6 in
+    let whole = spells-split (all_rows role (h.dim / 8) h.count b ps) (λ rows. done (record {
+      dim = h.dim;
+      b = b;
+      nflip = nflip;
+      rows = rows;
+    })) r6 v m6 in
+    let e = spells-split (each ps (bucket_rows role (h.dim / 8) h.count b)) (λ buckets. done (concat buckets))
+    whole.front whole.value whole.first in
     let fits6 = back-bytes r5 run r6 p6 fits5 in
     let lists = each-found (bucket_rows role (h.dim / 8) h.count b)
     (λ p rs x. BucketRead role h.count (h.dim / 8) b p rs × BucketPart rs x)
     (bucket-found role h.count (h.dim / 8) b) ps e.front e.value
-    (front-bytes r6 e.front e.back e.parts fits6) e.first in
+    (front-bytes whole.front e.front e.back e.parts
+    (front-bytes r6 whole.front whole.back whole.parts fits6)) e.first in
     let facts = facts-of (BucketRead role h.count (h.dim / 8) b) BucketPart ps e.value e.front lists in
     let parts = parts-of (BucketRead role h.count (h.dim / 8) b) BucketPart ps e.value e.front lists in
     let are = pairs-map (BucketRead role h.count (h.dim / 8) b) (AreKeyed (key_of b))
@@ -294,7 +305,8 @@ hash-found role bytes v r fits0 spelled =
     bits-of-value w (keys_of ps) keys n ∙ own-bits b n rows ps e.value own are in
     let run_is : run ≡ packed (hash_bits w n) = sym bits ∙ ap packed (sym bits_is) in
     let run_size : number_of 8 b5 ≡ length (packed (hash_bits w n)) = sym l6 ∙ ap length run_is in
-    let all = at_end r6 e.front e.back e.parts e.more.0 in
+    let all = at_end r6 whole.front whole.back whole.parts whole.more.0
+    ∙ at_end whole.front e.front e.back e.parts e.more.0 in
     let spelled_rows : Each (λ k. BucketPart (bucket w k)) (hash_keys w) r6 =
     listed w (keys_of ps) keys r6 (own-key-parts (key_of b) BucketPart rows ps e.value r6 own
     (subst (Each BucketPart e.value) (sym all) parts)) in
@@ -356,7 +368,8 @@ hash-found role bytes v r fits0 spelled =
       settled = grouped w by;
       fits = hash-fits role h w r hd.0 refl count passed;
     } in
-    subst (λ (v : HashValue). HashRead role v bytes) e.more.1 made
+    subst (λ (v : HashValue). HashRead role v bytes)
+    (ap (λ (rows : List Row). record { dim = h.dim; b = b; nflip = nflip; rows = rows }) e.more.1 ∙ whole.more.1) made
 
 -- ---- the other way round
 
@@ -557,9 +570,20 @@ module _ (v : HashValue) where
 value-same : (v : HashValue) (rows : List Row) → rows ≡ v.rows → record v { rows = rows } ≡ v
 value-same v rows e = rw e refl
 
+rows-spelled : (role : Role) (size n b : ℕ) (ps : List KeySize) (groups : List (List Row)) (bytes : List ℕ)
+    → Spells (each ps (bucket_rows role size n b)) bytes groups
+    → Spells (all_rows role size n b ps) bytes (concat groups)
+unfolding all_rows
+rows-spelled role size n b ps groups bytes h =
+    subst (λ (t : List ℕ). Spells (each ps (bucket_rows role size n b) >>= λ buckets. done (concat buckets)) t
+    (concat groups)) (append-nil bytes)
+    (spells-join (each ps (bucket_rows role size n b)) (λ buckets. done (concat buckets)) bytes [] groups
+    (concat groups) h (refl, refl))
+
 pub hash-again : (role : Role) (bytes : List ℕ) (v : HashValue) → IsBodyRole role → HashRead role v bytes
     → Spells (hash_body role) bytes v
-unfolding hash_body
+unfolding hash_body hash_rest b_field nflip_field hash_buckets bucket_count_field width_field buckets_of known_count
+    run_field all_rows
 hash-again role bytes v r h =
     let (
       n,
@@ -660,7 +684,8 @@ hash-again role bytes v r h =
                 s.size,
                 c6,
                 rw found (rw (sym (append-nil r6)) (spells-join
-                    (each ps (bucket_rows role (v.dim / 8) total_rows v.b)) _ r6 [] (the_groups v) v lists (
+                    (all_rows role (v.dim / 8) total_rows v.b ps) _ r6 [] (concat (the_groups v)) v
+                    (rows-spelled role (v.dim / 8) total_rows v.b ps (the_groups v) r6 lists) (
                       refl,
                       value-same v (concat (the_groups v)) (groups-all v by),
                     ))),

@@ -26,13 +26,13 @@ use Rattle.index_files.specs.File.{BucketPart}
 use Rattle.index_files.specs.FlatFormat.{is_inside, is_no_place}
 use Rattle.hash_index.specs.Keys.{key_of}
 use Rattle.index_files.specs.HashFormat.{KeySize, bucket_at, buckets_in, has_padding, bucket_checks, hash_run_checks}
-use Rattle.index_files.specs.HashFormat.{bucket_id, bucket_code, hash_rows, bucket_rows}
+use Rattle.index_files.specs.HashFormat.{bucket_id, bucket_code, hash_rows, rows_under, bucket_rows, known_count}
 use Rattle.index_files.proofs.Heads.{pass_one}
 use Rattle.index_files.proofs.Elements.{IsBytes, front-bytes, back-bytes, repeated-found, repeated-again}
 use Rattle.index_files.proofs.FileLaws.{at_end, byte-at, signed-fits}
 use Rattle.index_files.proofs.Each.{each-map}
 use Rattle.index_files.proofs.HashGroups.{NewKeys, AreKeyed}
-use Rattle.index_files.proofs.PackedLaws.{At, byte_count, packed-found}
+use Rattle.bit_strings.proofs.PackedLemmas.{At, byte_count, packed-found}
 
 -- ---- checks in a row
 
@@ -312,7 +312,7 @@ module _ (role : Role) (total code_size b : ℕ) where
   pub bucket-found : (p : KeySize) (bytes : List ℕ) (rows : List Row) → IsBytes bytes
       → Spells (bucket_rows role code_size total b p) bytes rows
       → BucketRead role total code_size b p rows × BucketPart rows bytes
-  unfolding bucket_rows
+  unfolding bucket_rows known_count rows_under
   bucket-found p bytes rows fits (f0, b0, p0, l0, c0, h) =
       let fits0 = back-bytes bytes f0 b0 p0 fits in
       let s = spells-split (repeated p.size (bucket_id role total)) _ b0 rows h in
@@ -377,7 +377,7 @@ module _ (role : Role) (total code_size b : ℕ) where
   pub bucket-again : (p : KeySize) (bytes : List ℕ) (rows : List Row)
       → BucketRead role total code_size b p rows × BucketPart rows bytes
       → Spells (bucket_rows role code_size total b p) bytes rows
-  unfolding bucket_rows
+  unfolding bucket_rows known_count rows_under
   bucket-again p bytes rows (h, (v, y, q, (f0, zb, q0, n0, ids), (f1, cb, q1, n1, codes))) =
       let zs = map (λ (row : Row). row.label) rows in
       let cs = map (λ (row : Row). row.code) rows in

@@ -20,7 +20,7 @@ use Rattle.hash_index.specs.Keys.{key_of, hash_keys, bucket}
 use Rattle.index_files.specs.File.{HoldsBuckets, hash_bits, BucketPart, Body}
 use Rattle.index_files.specs.Canon.{number, short_number, ids_bytes, vector, head, size_width, bucket_bytes, hash_bytes}
 use Rattle.index_files.proofs.Width.{below-max}
-use Rattle.index_files.proofs.PackedLaws.{length-bytes}
+use Rattle.bit_strings.proofs.PackedLemmas.{length-bytes}
 use Rattle.index_files.proofs.HashGroups.{bucket_size}
 use Rattle.index_files.proofs.HashRun.{run_bits, run-width, total-bytes}
 use Rattle.index_files.proofs.HashLaw.{widest}
@@ -52,12 +52,12 @@ filtered : (P : Row → Type 0) (v : HashValue) (k : ℕ) → All P v.rows → A
 filtered P v k h = All-filter (λ row. eqb k (key_of v.b row)) P v.rows h
 
 module _ (v : HashValue) (legal : IsLegalHash v) where
-  rows-few : length v.rows * 80 ≤ load_limit
+  pub rows-few : length v.rows * 80 ≤ load_limit
   rows-few =
       let e : length v.rows * 80 ≤ length v.rows * (v.dim / 8 + 16 + 64 * 1) = grind arith in
       omega (arith, e, legal.load)
 
-  keys-few : length (hash_keys v) ≤ length v.rows
+  pub keys-few : length (hash_keys v) ≤ length v.rows
   keys-few = omega (arith, firsts-few (map (key_of v.b) v.rows), length-map v.rows (key_of v.b))
 
   bucket-few : (k : ℕ) → length (bucket v k) ≤ length v.rows
@@ -94,7 +94,7 @@ module _ (v : HashValue) (legal : IsLegalHash v) where
       ap total_width same ∙ run-width v.b n (map (bucket_size (key_of v.b) v.rows) ks)
       ∙ ap (λ m. m * (v.b + n)) (length-map ks (bucket_size (key_of v.b) v.rows))
 
-  packed-few : length (packed (hash_bits v (size_width v))) < 2 ^ 64
+  pub packed-few : length (packed (hash_bits v (size_width v))) < 2 ^ 32
   packed-few =
       let w = bits-width (size_width v) in
       let most : length (hash_keys v) * (v.b + size_width v) ≤ length (hash_keys v) * 95 =
@@ -194,7 +194,7 @@ module _ (v : HashValue) (legal : IsLegalHash v) where
                       vector run,
                       rows,
                       refl,
-                      bytes-spelled run packed-few,
+                      bytes-spelled run (omega (arith, packed-few)),
                       each-spelled (λ k. BucketPart (bucket v k)) (λ k. bucket_bytes (bucket v k)) (hash_keys v)
                           (λ i d lt. bucket-spelled _),
                     ),

@@ -10,11 +10,12 @@ pub mod ListRows
 pub mod IvfFacts
 pub mod IvfLaw
 pub mod IvfAgain
-pub mod PackedLaws
 pub mod Width
 pub mod HashGroups
 pub mod HashRun
 pub mod HashLaw
+pub mod HashReading
+pub mod HashRunReading
 pub mod MultiRun
 pub mod MapLaw
 pub mod MultiLaw
@@ -29,6 +30,13 @@ pub mod FlatFiles
 pub mod FileLaws
 pub mod FlatLaw
 pub mod WritingLemmas
+pub mod IvfWriting
 pub mod SaveLemmas
+pub mod PackingLemmas
+pub mod HashWriting
+pub mod MultiWriting
 pub mod LengthLaws
 pub mod LoadLemmas
+pub mod MultiReading
+pub mod MultiParts
+pub mod IvfReading

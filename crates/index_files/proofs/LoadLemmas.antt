@@ -26,13 +26,12 @@ use Rattle.file_parts.proofs.Reading.{◌>>>◌, spells-read, read-spells, fault
 use Rattle.file_parts.proofs.Repeats.{with_front, one-more}
 use Rattle.index_files.specs.declared.load_error.LoadError.{LoadError}
 use Rattle.index_files.specs.declared.load_error.LoadError.TheVariants as error
-use Rattle.index_files.specs.FileFormat.{file_of}
-use Rattle.index_files.specs.Laws.{FitsRole, IsBodyRole, IsInside, IsFileOf}
-use Rattle.index_files.specs.Letters.{is_read}
+use Rattle.index_files.specs.File.{IsFile}
+use Rattle.index_files.specs.FileFormat.{file}
+use Rattle.index_files.specs.Laws.{FitsRole, IsBodyRole, IsInside}
 use Rattle.index_files.specs.Loading.{Loads, load_error}
 use Rattle.index_files.proofs.Elements.{IsBytes}
-use Rattle.index_files.proofs.FileLaws.{file-found, file-again}
-use Rattle.index_files.proofs.KindLaws.{law}
+use Rattle.index_files.proofs.KindLaws.{found, again}
 
 -- ---- several of one format by one read
 
@@ -167,42 +166,37 @@ abbrev pub loaded : Result IndexValue PartError → Result IndexValue LoadError
 loaded (Ok v) = Ok v
 loaded (Err e) = Err (load_error e)
 
-loads : (r : Result IndexValue PartError) (file : Result IndexValue FileFault) → Decodes (λ v. v) r file
-    → Loads (loaded r) file
-loads (Ok v) file h = h
-loads (Err (part.Bad b)) file h = h
-loads (Err part.Failed) file h = tt
-loads (Err part.Memory) file h = tt
+loads : (r : Result IndexValue PartError) (whole : Result IndexValue FileFault) → Decodes (λ v. v) r whole
+    → Loads (loaded r) whole
+loads (Ok v) whole h = h
+loads (Err (part.Bad b)) whole h = h
+loads (Err part.Failed) whole h = tt
+loads (Err part.Memory) whole h = tt
 
 pub loaded_ok : (r : Result IndexValue PartError) (bytes : List ℕ)
-    → Decodes (λ v. v) r (read (file_of is_read) bytes)
-    → IsBytes bytes → IfOk (loaded r) (IsFileOf is_read bytes)
-loaded_ok (Ok v) bytes h fits =
-    file-found is_read (λ kind e. law kind) bytes v fits (spells-read (file_of is_read) bytes v h)
+    → Decodes (λ v. v) r (read file bytes) → IsBytes bytes → IfOk (loaded r) (λ v. IsFile v bytes)
+loaded_ok (Ok v) bytes h fits = found bytes v fits (spells-read file bytes v h)
 loaded_ok (Err e) bytes h fits = tt
 
 pub loaded_only : (r : Result IndexValue PartError) (bytes : List ℕ) (v : IndexValue)
-    → Decodes (λ v. v) r (read (file_of is_read) bytes) → IsFileOf is_read bytes v → Loads (loaded r) (Ok v)
+    → Decodes (λ v. v) r (read file bytes) → IsFile v bytes → Loads (loaded r) (Ok v)
 loaded_only r bytes v h is =
-    subst (Loads (loaded r)) (read-spells (file_of is_read) bytes v (file-again is_read
-    (λ kind e. law kind) bytes v is))
-    (loads r (read (file_of is_read) bytes) h)
+    subst (Loads (loaded r)) (read-spells file bytes v (again bytes v is)) (loads r (read file bytes) h)
 
 pub loaded_bad : (r : Result IndexValue PartError) (bytes : List ℕ) (f : FileFault)
-    → Decodes (λ v. v) r (read (file_of is_read) bytes) → loaded r ≡ Err (error.Bad f)
-    → FirstFault (file_of is_read) bytes f
+    → Decodes (λ v. v) r (read file bytes) → loaded r ≡ Err (error.Bad f) → FirstFault file bytes f
 loaded_bad (Ok v) bytes f h e = absurd cc
 loaded_bad (Err (part.Bad b)) bytes f h e =
     let same : b ≡ f = cc in
-    subst (FirstFault (file_of is_read) bytes) same (fault-read (file_of is_read) bytes b h)
+    subst (FirstFault file bytes) same (fault-read file bytes b h)
 loaded_bad (Err part.Failed) bytes f h e = absurd cc
 loaded_bad (Err part.Memory) bytes f h e = absurd cc
 
 pub loaded_first : (r : Result IndexValue PartError) (bytes : List ℕ) (f : FileFault)
-    → Decodes (λ v. v) r (read (file_of is_read) bytes) → FirstFault (file_of is_read) bytes f
+    → Decodes (λ v. v) r (read file bytes) → FirstFault file bytes f
     → Loads (loaded r) (Err f)
 loaded_first r bytes f h is =
-    subst (Loads (loaded r)) (read-fault (file_of is_read) bytes f is) (loads r (read (file_of is_read) bytes) h)
+    subst (Loads (loaded r)) (read-fault file bytes f is) (loads r (read file bytes) h)
 
 -- ---- feeds that go on over one shelf
 

@@ -30,7 +30,7 @@ use Rattle.index_files.proofs.Elements.{IsBytes, front-bytes, back-bytes}
 use Rattle.index_files.proofs.FileLaws.{at_end}
 use Rattle.index_files.proofs.Numbering.{IsBelow, label_count, count-same, count-other, count-append, count-cons}
 use Rattle.index_files.proofs.Numbering.{below-all, below-each, numbering-found}
-use Rattle.index_files.proofs.PackedLaws.{At, Fits, byte_count, packed-found, packed-again}
+use Rattle.bit_strings.proofs.PackedLemmas.{At, Fits, byte_count, packed-found, packed-again}
 use Rattle.index_files.proofs.Width.{width-is, width-only}
 use Rattle.index_files.proofs.HashLaw.{key-below}
 use Rattle.index_files.proofs.MultiRun.{NewPositions, NewEntries, code_key, Fresh, fresh-all, below-entries}

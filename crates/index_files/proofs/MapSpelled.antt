@@ -258,7 +258,7 @@ module _ (v : MultiValue) (i : ℕ) where
 
 -- ---- a map
 
-module _ (v : MultiValue) (legal : IsLegalMulti v) (none : wide_of_inner (Multi v) ≡ None) where
+module _ (v : MultiValue) (legal : IsLegalMulti v) where
   codes-few : length v.codes < 2 ^ 27
   codes-few = (let e : length v.codes * 16 ≤ length v.codes * (v.dim / 8 + 16 + 64 * v.nhash) = grind arith in
       omega (arith, e, legal.load))
@@ -269,6 +269,40 @@ module _ (v : MultiValue) (legal : IsLegalMulti v) (none : wide_of_inner (Multi 
   width-most : position_width (length v.codes) ≤ 27
   width-most = width-least.least 27 (omega (arith, codes-few))
 
+  entries-few : (i : ℕ) → length (entries_of v i) ≤ length v.codes
+  unfolding map_keys
+  entries-few i =
+      let xs = range_with_len 0 (length v.codes) in
+      let ks = firsts (map (map_key v i) xs) in
+      omega (
+        arith,
+        length-map {B = Entry} ks (λ k. record { key = k; positions = positions v i k }),
+        firsts-few (map (map_key v i) xs),
+        length-map xs (map_key v i),
+        length-range_with_len 0 (length v.codes),
+      )
+
+  pub packed-few : (i : ℕ) → length (packed
+      (entry_bits v.b (position_width (length v.codes)) (entries_of v i))) < 2 ^ 32
+  packed-few i =
+      let n = position_width (length v.codes) in
+      let es = entries_of v i in
+      let total = total-again v i (omega (arith, codes-few)) es (entries-are v i) in
+      let w = run-width v.codes i v.b n es in
+      let one : (v.b + n) * length es ≤ 91 * length es =
+      less (v.b + n) 91 (length es) (omega (arith, legal.b_most, width-most)) in
+      let two : length (all_positions es) * n ≤ 27 * length v.codes =
+      turned (length (all_positions es)) n (length v.codes) total width-most in
+      omega (arith, length-packed (entry_bits v.b n es), w, one, two, entries-few i, codes-few)
+    where
+      less : (a c m : ℕ) → a ≤ c → a * m ≤ c * m
+      less a c m le = grind arith
+
+      turned : (a n c : ℕ) → a ≡ c → n ≤ 27 → a * n ≤ 27 * c
+      turned a n c e le = (let k : a * n ≡ n * a = grind arith in let l : n * a ≤ 27 * a = less n 27 a le in
+          omega (arith, k, l, e))
+
+module _ (v : MultiValue) (legal : IsLegalMulti v) (none : wide_of_inner (Multi v) ≡ None) where
   not-wide : (i : ℕ) → i < v.nhash → is_power (length v.codes) ≡ true → is_wide_map v i ≡ true → ⊥
   not-wide i lt power is =
       let some : option_map (λ i. record { map = i; size = length v.codes })
@@ -293,44 +327,12 @@ module _ (v : MultiValue) (legal : IsLegalMulti v) (none : wide_of_inner (Multi 
         | inl less ↦ less
         | inr more ↦
             let few = positions-few v i k in
-            let full : length (positions v i k) ≡ length v.codes = omega (arith, few, more, width-least.holds) in
-            let is : length v.codes ≡ 2 ^ n = omega (arith, few, more, width-least.holds) in
+            let held = (width-least v legal).holds in
+            let full : length (positions v i k) ≡ length v.codes = omega (arith, few, more, held) in
+            let is : length v.codes ≡ 2 ^ n = omega (arith, few, more, held) in
             absurd (not-wide i lt (any-from (λ k. eqb (length v.codes) (2 ^ k)) 0 64 n (omega arith)
-            (omega (arith, width-most)) (eq-eqb _ _ is)) (full-wide v i k full))
+            (omega (arith, width-most v legal)) (eq-eqb _ _ is)) (full-wide v i k full))
       ]
-
-  entries-few : (i : ℕ) → length (entries_of v i) ≤ length v.codes
-  unfolding map_keys
-  entries-few i =
-      let xs = range_with_len 0 (length v.codes) in
-      let ks = firsts (map (map_key v i) xs) in
-      omega (
-        arith,
-        length-map {B = Entry} ks (λ k. record { key = k; positions = positions v i k }),
-        firsts-few (map (map_key v i) xs),
-        length-map xs (map_key v i),
-        length-range_with_len 0 (length v.codes),
-      )
-
-  packed-few : (i : ℕ) → length (packed
-      (entry_bits v.b (position_width (length v.codes)) (entries_of v i))) < 2 ^ 64
-  packed-few i =
-      let n = position_width (length v.codes) in
-      let es = entries_of v i in
-      let total = total-again v i (omega (arith, codes-few)) es (entries-are v i) in
-      let w = run-width v.codes i v.b n es in
-      let one : (v.b + n) * length es ≤ 91 * length es =
-      less (v.b + n) 91 (length es) (omega (arith, legal.b_most, width-most)) in
-      let two : length (all_positions es) * n ≤ 27 * length v.codes =
-      turned (length (all_positions es)) n (length v.codes) total width-most in
-      omega (arith, length-packed (entry_bits v.b n es), w, one, two, entries-few i, codes-few)
-    where
-      less : (a c m : ℕ) → a ≤ c → a * m ≤ c * m
-      less a c m le = grind arith
-
-      turned : (a n c : ℕ) → a ≡ c → n ≤ 27 → a * n ≤ 27 * c
-      turned a n c e le = (let k : a * n ≡ n * a = grind arith in let l : n * a ≤ 27 * a = less n 27 a le in
-          omega (arith, k, l, e))
 
   map-spelled : (i : ℕ) → i < v.nhash → MapPart v i (map_bytes v i)
   unfolding number_bytes
@@ -341,20 +343,20 @@ module _ (v : MultiValue) (legal : IsLegalMulti v) (none : wide_of_inner (Multi 
         es,
         n,
         entries-are v i,
-        width-least,
+        width-least v legal,
         All-map (λ (e : Entry). length e.positions < 2 ^ n) (λ k. record { key = k; positions = positions v i k })
             (map_keys v i) (λ j d less. fits i lt _),
         (
           short_number n,
           number (length es) ++ vector run,
           refl,
-          short-spelled n (omega (arith, width-most)),
+          short-spelled n (omega (arith, width-most v legal)),
           (
             number (length es),
             vector run,
             refl,
-            long-spelled (length es) (omega (arith, entries-few i, codes-few)),
-            bytes-spelled run (packed-few i),
+            long-spelled (length es) (omega (arith, entries-few v legal i, codes-few v legal)),
+            bytes-spelled run (omega (arith, packed-few v legal i)),
           ),
         ),
       )
@@ -368,7 +370,7 @@ module _ (v : MultiValue) (legal : IsLegalMulti v) (none : wide_of_inner (Multi 
       let flat = flat_bytes v.dim v.codes in
       let maps = flat_map (map_bytes v) (range_with_len 0 v.nhash) in
       let size : length v.codes * (v.dim / 8) ≤ length v.codes * (v.dim / 8 + 16 + 64 * v.nhash) = grind arith in
-      let few : length v.codes < 2 ^ 64 = omega (arith, codes-few) in
+      let few : length v.codes < 2 ^ 64 = omega (arith, codes-few v legal) in
       let b-fits : v.b < 2 ^ 32 = omega (arith, legal.b_most) in (
         codes "IBHm",
         hd ++ (flat ++ (short_number v.b ++ (short_number v.nhash ++ (short_number v.nflip ++ maps)))),

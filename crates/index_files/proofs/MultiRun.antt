@@ -18,7 +18,7 @@ use Rattle.index_files.specs.File.{bits_of_entry, entry_bits}
 use Rattle.index_files.specs.HashFormat.{has_padding}
 use Rattle.index_files.specs.MultiFormat.{numbers_in, position_checks, map_run_checks}
 use Rattle.index_files.proofs.HashRun.{both-pass, pass-both, first-passes, passes-first}
-use Rattle.index_files.proofs.PackedLaws.{At}
+use Rattle.bit_strings.proofs.PackedLemmas.{At}
 
 -- ---- what the checks say
 

@@ -214,7 +214,7 @@ module _ (v : IvfValue) (legal : IsLegalIvf v) where
   filled-below = All-filter (λ list. nat_lt 0 (length (on_list v list))) (λ list. list < 2 ^ 64)
       (range_with_len 0 v.nlist) (λ i d lt. omega (arith, count-below 0 v.nlist i d lt, legal.nlist_most))
 
-  filled-few : length (filled v) ≤ v.nlist
+  pub filled-few : length (filled v) ≤ v.nlist
   unfolding filled
   filled-few = omega (
     arith,

@@ -1,5 +1,5 @@
 -- The fields of a whole file, each with its checks in order.
-use Rattle.std.specs.Prelude.{ℕ, ℤ, Bool, true, List, []}
+use Rattle.std.specs.Prelude.{ℕ, ℤ, List, []}
 use Rattle.bcodes.specs.declared.map_name.MapName.{MapName}
 use Rattle.bcodes.specs.Value.{Inner, Flat, Ivf, Hash, Multi, IndexValue, Bare, IdMap}
 use Rattle.file_parts.specs.declared.reason.Reason.TheVariants as reason
@@ -47,18 +47,14 @@ abbrev pub inside : MapName → HeadValue → Start → Format IndexValue
 inside name h (Plain kind) = map_body name kind h.dim h.count
 inside name h _ = nothing_more
 
-abbrev pub map_start : (KindName → Bool) → MapName → HeadValue → Format IndexValue
-map_start reads name h = letters (is_plain reads) >>= inside name h
+abbrev pub map_start : MapName → HeadValue → Format IndexValue
+map_start name h = letters is_plain >>= inside name h
 
-abbrev pub index : (KindName → Bool) → Start → Format IndexValue
-index reads (Plain kind) = body kind Outermost >>= λ v. done (Bare v)
-index reads (Mapped name) = header Outermost >>= map_start reads name
-index reads _ = nothing_more
+abbrev pub index : Start → Format IndexValue
+index (Plain kind) = body kind Outermost >>= λ v. done (Bare v)
+index (Mapped name) = header Outermost >>= map_start name
+index _ = nothing_more
 
--- a file of an index of one of these kinds
-unfoldable pub file_of : (KindName → Bool) → Format IndexValue
-file_of reads = letters (is_index reads) >>= index reads
-
--- of any kind
+-- a file of an index
 unfoldable pub file : Format IndexValue
-file = file_of (λ kind. true)
+file = letters is_index >>= index

@@ -40,16 +40,20 @@ bucket_checks seen (p ∷ ps) =
     ∷ (p.size == 0 ⇒ reason.EmptyBucket)
     ∷ bucket_checks (p.key ∷ seen) ps
 
+-- the checks behind the last bucket, by the sum of the sizes and the largest
+abbrev pub end_checks : ℕ → ℕ → ℕ → ℕ → List ℕ → ℕ → List Check
+end_checks width total all largest run from =
+    (not (all == total) ⇒ reason.ListSizes)
+    ∷ (not (width == bit_length largest) ⇒ reason.Bits)
+    ∷ (has_padding run from ⇒ reason.Padding)
+    ∷ []
+
 -- the checks of a run of so many buckets that hold `total` rows
 unfoldable pub hash_run_checks : ℕ → ℕ → ℕ → ℕ → List ℕ → List Check
 hash_run_checks b width count total run =
     let buckets = buckets_in run b width count in
     let sizes = map (λ p. p.size) buckets in
-    bucket_checks [] buckets
-    ++ (not (sum sizes == total) ⇒ reason.ListSizes)
-    ∷ (not (width == bit_length (fold max 0 sizes)) ⇒ reason.Bits)
-    ∷ (has_padding run (count * (b + width)) ⇒ reason.Padding)
-    ∷ []
+    bucket_checks [] buckets ++ end_checks width total (sum sizes) (fold max 0 sizes) run (count * (b + width))
 
 -- ---- the rows
 
@@ -64,14 +68,26 @@ bucket_code code_size b wanted =
 abbrev pub hash_rows : List (List ℕ) → List ℤ → List Row
 hash_rows codes ids = map (λ p. record { label = p.1; code = p.0 }) (zip codes ids)
 
+-- the count of a vector, which the fields before it tell
+unfoldable pub known_count : ℕ → Format ℕ
+known_count n = number 8 (must_be n reason.VectorSize)
+
+-- the codes of a bucket, under these ids
+unfoldable pub rows_under : ℕ → ℕ → KeySize → List ℤ → Format (List Row)
+rows_under code_size b p ids =
+    repeated p.size (bucket_code code_size b p.key) >>= λ codes. done (hash_rows codes ids)
+
 -- the rows of a bucket: its ids, and then its codes
 unfoldable pub bucket_rows : Role → ℕ → ℕ → ℕ → KeySize → Format (List Row)
 bucket_rows role code_size count b p = do
-  id_count ← number 8 (must_be p.size reason.VectorSize)
+  id_count ← known_count p.size
   ids ← repeated p.size (bucket_id role count)
-  byte_count ← number 8 (must_be (p.size * code_size) reason.VectorSize)
-  codes ← repeated p.size (bucket_code code_size b p.key)
-  done (hash_rows codes ids)
+  byte_count ← known_count (p.size * code_size)
+  rows_under code_size b p ids
+
+-- the rows of buckets, one after the other
+unfoldable pub all_rows : Role → ℕ → ℕ → ℕ → List KeySize → Format (List Row)
+all_rows role code_size count b ps = each ps (bucket_rows role code_size count b) >>= λ buckets. done (concat buckets)
 
 -- ---- all
 
@@ -84,14 +100,43 @@ hash_b_checks head b =
 abbrev pub bucket_count_checks : ℕ → ℕ → List Check
 bucket_count_checks total n = (nat_lt total n || (n == 0 && not (total == 0)) ⇒ reason.Number) ∷ []
 
+unfoldable pub b_field : HeadValue → Format ℕ
+b_field head = number 4 (hash_b_checks head)
+
+unfoldable pub nflip_field : ℕ → Format ℕ
+nflip_field b = number 4 (at_most b reason.Number)
+
+unfoldable pub bucket_count_field : ℕ → Format ℕ
+bucket_count_field total = number 8 (bucket_count_checks total)
+
+unfoldable pub width_field : Format ℕ
+width_field = number 4 (at_most 31 reason.Bits)
+
+-- the packed run, of so many bytes
+unfoldable pub run_field : ℕ → ℕ → ℕ → ℕ → ℕ → Format (List ℕ)
+run_field b width count total bytes = bytes_field bytes (hash_run_checks b width count total)
+
+-- so many buckets, with sizes of `width` bits, and their rows
+unfoldable pub buckets_of : Role → ℕ → ℕ → ℕ → ℕ → ℕ → Format (List Row)
+buckets_of role code_size total b count width = do
+  byte_count ← known_count (((b + width) * count + 7) / 8)
+  run ← run_field b width count total byte_count
+  all_rows role code_size total b (buckets_in run b width count)
+
+-- what follows the settings
+unfoldable pub hash_buckets : Role → ℕ → ℕ → ℕ → Format (List Row)
+hash_buckets role code_size total b = do
+  count ← bucket_count_field total
+  width ← width_field
+  buckets_of role code_size total b count width
+
+-- what follows the header
+unfoldable pub hash_rest : Role → HeadValue → Format HashValue
+hash_rest role head = do
+  b ← b_field head
+  nflip ← nflip_field b
+  rows ← hash_buckets role (head.dim / 8) head.count b
+  done (record { dim = head.dim; b = b; nflip = nflip; rows = rows })
+
 unfoldable pub hash_body : Role → Format HashValue
-hash_body role = do
-  head ← header role
-  b ← number 4 (hash_b_checks head)
-  nflip ← number 4 (at_most b reason.Number)
-  count ← number 8 (bucket_count_checks head.count)
-  width ← number 4 (at_most 31 reason.Bits)
-  byte_count ← number 8 (must_be (((b + width) * count + 7) / 8) reason.VectorSize)
-  run ← bytes_field byte_count (hash_run_checks b width count head.count)
-  buckets ← each (buckets_in run b width count) (bucket_rows role (head.dim / 8) head.count b)
-  done (record { dim = head.dim; b = b; nflip = nflip; rows = concat buckets })
+hash_body role = header role >>= hash_rest role

@@ -1,21 +1,13 @@
 -- Files as a whole: each list of bytes is decided, and what a value is before it is written.
-use Rattle.std.specs.Prelude.{◌≡◌, ℕ, Bool, true, List}
+use Rattle.std.specs.Prelude.{◌≡◌, ℕ, List}
 use Rattle.std.specs.List.{All}
-use Rattle.bcodes.specs.Value.{Inner, Flat, Ivf, Hash, Multi, IndexValue, Bare, IdMap, inner_of, dim_of_inner}
+use Rattle.bcodes.specs.Value.{Inner, Ivf, IndexValue, Bare, IdMap, dim_of_inner}
 use Rattle.bcodes.specs.Value.{count_of_inner, rows_of_inner, IsPlace}
 use Rattle.file_parts.specs.declared.role.Role.{Role}
 use Rattle.file_parts.specs.declared.role.Role.TheVariants.{Outermost, Within, Quantizer}
 use Rattle.file_parts.specs.Format.{FirstFault, IsDecided}
 use Rattle.index_files.specs.File.{IsFile}
-use Rattle.index_files.specs.FileFormat.{file_of, file}
-use Rattle.index_files.specs.declared.kind_name.KindName.{KindName}
-use Rattle.index_files.specs.declared.kind_name.KindName.TheVariants as named
-
-abbrev pub name_of : Inner → KindName
-name_of (Flat v) = named.Flat
-name_of (Ivf v) = named.Ivf
-name_of (Hash v) = named.Hash
-name_of (Multi v) = named.Multi
+use Rattle.index_files.specs.FileFormat.{file}
 
 -- an index within an IDMap has its dimension and count, and its labels are places
 pub record IsInside (dim count : ℕ) (v : Inner) : Type 0 where
@@ -34,18 +26,9 @@ IsBodyRole Outermost = Unit {0}
 IsBodyRole (Within dim count) = Unit {0}
 IsBodyRole (Quantizer dim nlist rows flag) = ⊥
 
--- a file of an index of these kinds
-pub record IsFileOf (reads : KindName → Bool) (bytes : List ℕ) (v : IndexValue) : Type 0 where
-  pub kind : reads (name_of (inner_of v)) ≡ true
-  pub file : IsFile v bytes
-
--- each byte list is a file of exactly one value or has exactly one fault
-abbrev pub IsDecidedFile : (KindName → Bool) → List ℕ → Type 0
-IsDecidedFile reads bytes = IsDecided (IsFileOf reads bytes) (FirstFault (file_of reads) bytes)
-
--- the same for files of every kind
-abbrev pub IsDecidedWhole : List ℕ → Type 0
-IsDecidedWhole bytes = IsDecided (λ v. IsFile v bytes) (FirstFault file bytes)
+-- the bytes are a file of exactly one value, or have exactly one fault
+abbrev pub IsDecidedFile : List ℕ → Type 0
+IsDecidedFile bytes = IsDecided (λ v. IsFile v bytes) (FirstFault file bytes)
 
 -- the value with no limit on the codes that a query looks at
 abbrev pub unlimited_inner : Inner → Inner

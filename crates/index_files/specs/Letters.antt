@@ -5,7 +5,6 @@ use Rattle.std.specs.Str.{bytes_eq}
 use Rattle.bcodes.specs.declared.map_name.MapName.TheVariants.{Map, Map2}
 use Rattle.file_parts.specs.declared.reason.Reason.TheVariants as reason
 use Rattle.file_parts.specs.Format.{Check, ◌⇒◌, Format, done, field}
-use Rattle.index_files.specs.declared.kind_name.KindName.{KindName}
 use Rattle.index_files.specs.declared.kind_name.KindName.TheVariants as named
 use Rattle.index_files.specs.declared.reading.start.Wanted.{Wanted}
 use Rattle.index_files.specs.declared.reading.start.Wanted.TheVariants as wanted
@@ -23,28 +22,21 @@ start_of letters =
     else if bytes_eq letters (codes "IBHf") || bytes_eq letters (codes "IBFf") then NotRead
     else Unknown
 
--- the kinds whose files are read
-abbrev pub is_read : KindName → Bool
-is_read named.Flat = true
-is_read named.Ivf = false
-is_read named.Hash = false
-is_read named.Multi = false
-
 -- the letters of an index, one that is never read among them
 abbrev pub is_known : Start → Bool
 is_known Unknown = false
 is_known _ = true
 
--- an index of one of these kinds, plain or in an IDMap
-abbrev pub is_index : (KindName → Bool) → Start → Bool
-is_index reads (Plain kind) = reads kind
-is_index reads (Mapped name) = true
-is_index reads _ = false
+-- an index of one of the four kinds, plain or in an IDMap
+abbrev pub is_index : Start → Bool
+is_index (Plain kind) = true
+is_index (Mapped name) = true
+is_index _ = false
 
--- an index of one of these kinds
-abbrev pub is_plain : (KindName → Bool) → Start → Bool
-is_plain reads (Plain kind) = reads kind
-is_plain reads _ = false
+-- an index of one of the four kinds
+abbrev pub is_plain : Start → Bool
+is_plain (Plain kind) = true
+is_plain _ = false
 
 -- a Flat
 abbrev pub is_flat : Start → Bool
@@ -53,8 +45,8 @@ is_flat _ = false
 
 -- what may stand in a place
 abbrev pub is_wanted : Wanted → Start → Bool
-is_wanted wanted.Index = is_index is_read
-is_wanted wanted.Plain = is_plain is_read
+is_wanted wanted.Index = is_index
+is_wanted wanted.Plain = is_plain
 is_wanted wanted.Flat = is_flat
 
 abbrev pub start_checks : (Start → Bool) → Start → List Check

@@ -5,10 +5,14 @@ pub mod Canon
 pub mod Letters
 pub mod FlatFormat
 pub mod IvfFormat
+pub mod IvfSteps
 pub mod HashFormat
+pub mod HashReading
 pub mod MultiFormat
+pub mod MapReading
 pub mod FileFormat
 pub mod Laws
 pub mod Errors
 pub mod Saving
+pub mod Writing
 pub mod Loading

@@ -1,20 +1,17 @@
 //! What the definitions of files promise, as the contracts of functions that do nothing.
-ghost use Rattle.std.specs.Prelude.{◌≡◌, ℕ, ◌^◌, ◌<◌, Bool, List, None};
+ghost use Rattle.std.specs.Prelude.{◌≡◌, ℕ, ◌^◌, ◌<◌, List, None};
 ghost use Rattle.std.specs.List.{All};
 ghost use Rattle.bcodes.specs.Answers.{best, within};
 ghost use Rattle.bcodes.specs.Value.{IndexValue, IsLegal};
 ghost use Rattle.multi_hash.specs.Wide.{wide};
-ghost use Rattle.index_files.specs.declared.kind_name.KindName.{KindName};
 ghost use Rattle.index_files.specs.Canon.{canon};
 ghost use Rattle.index_files.specs.File.{IsFile, settled};
-ghost use Rattle.index_files.specs.Laws.{IsDecidedFile, IsDecidedWhole, unlimited};
+ghost use Rattle.index_files.specs.Laws.{IsDecidedFile, unlimited};
 
 /// Each list of bytes is a file of exactly one index and has no fault, or it is no file and has
-/// exactly one first fault. The same holds where only some of the kinds are read.
+/// exactly one first fault.
 pub fn one_reading()
-    ensures whole { (bytes : List ℕ) → All (λ x. x < 2 ^ 8) bytes → IsDecidedWhole bytes }
-    ensures part { (reads : KindName → Bool) (bytes : List ℕ) → All (λ x. x < 2 ^ 8) bytes
-        → IsDecidedFile reads bytes }
+    ensures { (bytes : List ℕ) → All (λ x. x < 2 ^ 8) bytes → IsDecidedFile bytes }
 {}
 
 /// What is written of an index without a wide bucket is a file, and it stands for the index with

@@ -1,6 +1,7 @@
 //! The files of indexes, as Faiss lays them out (`impl/index_write.cpp`, `impl/index_read.cpp`).
 #![tactic(auto)]
 
+mod bit_widths;
 mod kind_name;
 pub mod laws;
 mod load_error;

@@ -1,26 +1,20 @@
-ghost use Rattle.std.specs.Prelude.{◌≡◌, ◌≤◌, length, IfOk};
-ghost use Rattle.bcodes.specs.Value.{Bare, Flat as FlatForm};
+mod files;
 
 use super::*;
-use any_index::{AnyIndex, InnerIndex};
-use bcodes::{BinaryIndex, Codes, Dim, Want};
+use any_index::AnyIndex;
+use bcodes::BinaryIndex;
 use file_parts::{FileFault, Reason};
-use flat_index::Flat;
+use files::{
+    Change, DIRECT, DIRECT_FAULTS, FLAT, FLAT_FAULTS, HASH, HASH_FAULTS, IVF, IVF_FAULTS,
+    MANY_FLAT, MANY_HASH, MANY_IVF, MANY_MULTI, MANY_POSITIONS, MAPPED, MAPPED_FAULTS, MULTI,
+    MULTI_FAULTS, SAMPLES,
+};
 use outside::{MemShelf, Shelf};
-use std::alloc::Global;
+use std::alloc::{AllocError, Global};
+use std::process::Abort;
 use std::test::Fail;
 
-/// A Flat of 8 bits with the code `ab`.
-const FLAT: &[u8] = b"IBxF\x08\x00\x00\x00\x01\x00\x00\x00\x01\x00\x00\x00\x00\x00\x00\x00\x01\
-    \x01\x00\x00\x00\x01\x00\x00\x00\x00\x00\x00\x00\xab";
-
-/// The same under the id -1.
-const MAPPED: &[u8] = b"IBMp\x08\x00\x00\x00\x01\x00\x00\x00\x01\x00\x00\x00\x00\x00\x00\x00\x01\
-    \x01\x00\x00\x00IBxF\x08\x00\x00\x00\x01\x00\x00\x00\x01\x00\x00\x00\x00\x00\x00\x00\x01\
-    \x01\x00\x00\x00\x01\x00\x00\x00\x00\x00\x00\x00\xab\x01\x00\x00\x00\x00\x00\x00\x00\
-    \xff\xff\xff\xff\xff\xff\xff\xff";
-
-/// What a load of these bytes answers.
+// What a load of these bytes answers.
 fn load(alloc: Global, bytes: &[u8]) -> Result<AnyIndex, LoadError> {
     let mut shelf = MemShelf::new(alloc);
     match shelf.put("f", bytes) {
@@ -33,69 +27,188 @@ fn load(alloc: Global, bytes: &[u8]) -> Result<AnyIndex, LoadError> {
     }
 }
 
-// A plain Flat of a few codes.
-fn flat_of(alloc: Global, codes: &Codes) -> Result<AnyIndex, Want>
-    requires { length codes.now.codes ≤ 4 }
-    ensures { IfOk result (λ index. index ≡ Bare (FlatForm codes.now)) }
-{
-    let mut flat = Flat::new(alloc, codes.dim())?;
-    flat.append(codes)?;
-    Ok(AnyIndex::plain(InnerIndex::Flat(flat)))
+// The bytes that an index is written as.
+fn saved(alloc: Global, index: &AnyIndex) -> Result<Vec<u8>, Fail> {
+    let mut shelf = MemShelf::new(alloc);
+    encode(alloc, index, "f", &mut shelf)?;
+    let bytes = shelf.get("f").unwrap_or(&[]);
+    Ok(Vec::from_slice(alloc, bytes)?)
 }
 
-#[test]
-fn a_flat_is_written_under_its_name(rt: HostRuntime) -> Result<(), Fail> {
-    let mut codes = Codes::new(rt.alloc(), Dim::new(8)?);
-    codes.push(&[0xab])?;
-    let index = flat_of(rt.alloc(), &codes)?;
-    let mut shelf = MemShelf::new(rt.alloc());
-    assert_eq!(rt; encode(rt.alloc(), &index, "f", &mut shelf)?, 34);
-    assert_eq!(rt; shelf.get("f"), Some(FLAT));
+// The file of an index in an IDMap with these ids, by the file of the index.
+fn mapped(alloc: Global, bytes: &[u8], ids: &[i64]) -> Result<Vec<u8>, AllocError> {
+    let mut file = Vec::from_slice(alloc, b"IBMp")?;
+    file.extend_from_slice(bytes.get(4..25).unwrap_or(&[]))?;
+    file.extend_from_slice(bytes)?;
+    file.extend_from_slice(&(ids.len() as u64).to_le_bytes())?;
+    for id in ids {
+        file.extend_from_slice(&id.to_le_bytes())?;
+    }
+    Ok(file)
+}
+
+// A file of an index of so many codes, which is written as the same bytes.
+fn check_whole<R: Abort>(rt: &R, alloc: Global, bytes: &[u8], count: u64) -> Result<(), Fail> {
+    let index = load(alloc, bytes)?;
+    assert_eq!(rt; index.count(), count);
+    assert_eq!(rt; saved(alloc, &index)?.as_slice(), bytes);
     Ok(())
 }
 
-#[test]
-fn whole_files_are_read(rt: HostRuntime) -> Result<(), Fail> {
-    let flat = load(rt.alloc(), FLAT)?;
-    assert_eq!(rt; flat.count(), 1);
-    let mapped = load(rt.alloc(), MAPPED)?;
-    assert_eq!(rt; mapped.ids(), [-1].as_slice());
+// The bytes are no file, and this is their first fault.
+fn check_fault<R: Abort>(
+    rt: &R,
+    alloc: Global,
+    bytes: &[u8],
+    at: u64,
+    reason: Reason,
+) -> Result<(), Fail> {
+    let fault = LoadError::Bad(FileFault { at, reason });
+    assert_eq!(rt; load(alloc, bytes).err(), Some(fault));
     Ok(())
 }
 
-#[test]
-fn the_first_fault_is_named(rt: HostRuntime) -> Result<(), Fail> {
-    let faults = [
-        (0, b'J', 0, Reason::Fourcc),
-        (3, b'f', 0, Reason::Fourcc),
-        (4, 12, 4, Reason::Dim),
-        (8, 2, 8, Reason::CodeSize),
-        (19, 0xff, 12, Reason::Count),
-        (17, 1, 12, Reason::Load),
-        (20, 2, 20, Reason::Flag),
-        (21, 2, 21, Reason::Metric),
-        (25, 2, 25, Reason::VectorSize),
-    ];
-    for (place, byte, at, reason) in faults {
-        let mut bytes = Vec::from_slice(rt.alloc(), FLAT)?;
-        bytes[place] = byte;
-        let fault = LoadError::Bad(FileFault { at, reason });
-        assert_eq!(rt; load(rt.alloc(), &bytes).err(), Some(fault));
+// The last of these places that is not behind `n`.
+fn field_at(starts: &[u64], n: u64) -> u64 {
+    let mut at = 0;
+    for &start in starts {
+        if start <= n {
+            at = start;
+        }
+    }
+    at
+}
+
+// A file that ends early is short at the field that it does not hold whole, and no byte may follow
+// a file.
+fn check_ends<R: Abort>(rt: &R, alloc: Global, bytes: &[u8], starts: &[u64]) -> Result<(), Fail> {
+    for n in 0..bytes.len() {
+        let at = field_at(starts, n as u64);
+        check_fault(rt, alloc, &bytes[..n], at, Reason::Short)?;
+    }
+    let mut longer = Vec::from_slice(alloc, bytes)?;
+    longer.push(0)?;
+    check_fault(rt, alloc, &longer, bytes.len() as u64, Reason::Trailing)
+}
+
+// Whether a file is accepted. It is then written as bytes that are accepted and written again.
+fn is_accepted<R: Abort>(rt: &R, alloc: Global, bytes: &[u8]) -> Result<bool, Fail> {
+    let index = match load(alloc, bytes) {
+        Ok(index) => index,
+        Err(_) => return Ok(false),
+    };
+    let once = saved(alloc, &index)?;
+    let again = load(alloc, &once)?;
+    assert_eq!(rt; saved(alloc, &again)?, once);
+    Ok(true)
+}
+
+// How many of the files are accepted that have another byte in one place, each place and four bytes
+// in turn.
+fn count_accepted<R: Abort>(rt: &R, alloc: Global, bytes: &[u8]) -> Result<u32, Fail> {
+    let mut count = 0u32;
+    for place in 0..bytes.len() {
+        for byte in [0, 1, 0x7f, 0xff] {
+            let mut changed = Vec::from_slice(alloc, bytes)?;
+            changed[place] = byte;
+            if is_accepted(rt, alloc, &changed)? {
+                count = count.saturating_add(1);
+            }
+        }
+    }
+    Ok(count)
+}
+
+// The file with each change has this fault.
+fn check_changes<R: Abort>(
+    rt: &R,
+    alloc: Global,
+    bytes: &[u8],
+    changes: &[Change<'_>],
+) -> Result<(), Fail> {
+    for &(place, new, at, reason) in changes {
+        assert!(rt; place <= bytes.len());
+        assert!(rt; new.len() <= bytes.len() - place);
+        let mut changed = Vec::from_slice(alloc, bytes)?;
+        changed[place..place + new.len()].copy_from_slice(new);
+        check_fault(rt, alloc, &changed, at, reason)?;
     }
     Ok(())
 }
 
 #[test]
-fn a_great_count_takes_no_memory(rt: HostRuntime) -> Result<(), Fail> {
-    let mut bytes = Vec::from_slice(rt.alloc(), FLAT)?;
-    bytes[12] = 0;
-    bytes[15] = 2;
-    bytes[25] = 0;
-    bytes[28] = 2;
-    let fault = LoadError::Bad(FileFault {
-        at: 34,
-        reason: Reason::Short,
-    });
-    assert_eq!(rt; load(rt.alloc(), &bytes).err(), Some(fault));
+fn whole_files_are_read_and_written_again(rt: HostRuntime) -> Result<(), Fail> {
+    for sample in SAMPLES {
+        check_whole(&rt, rt.alloc(), sample.bytes, sample.count)?;
+    }
+    for bytes in [HASH, MULTI] {
+        let file = mapped(rt.alloc(), bytes, &[-1, 5, i64::MIN])?;
+        check_whole(&rt, rt.alloc(), &file, 3)?;
+    }
+    let file = mapped(rt.alloc(), DIRECT, &[-1, i64::MIN])?;
+    check_whole(&rt, rt.alloc(), &file, 2)
+}
+
+#[test]
+fn a_file_ends_where_it_must(rt: HostRuntime) -> Result<(), Fail> {
+    for sample in SAMPLES {
+        check_ends(&rt, rt.alloc(), sample.bytes, sample.starts)?;
+    }
     Ok(())
+}
+
+#[test]
+fn a_changed_byte_is_a_fault_or_another_file(rt: HostRuntime) -> Result<(), Fail> {
+    for sample in SAMPLES {
+        let accepted = count_accepted(&rt, rt.alloc(), sample.bytes)?;
+        assert_eq!(rt; accepted, sample.accepted);
+    }
+    Ok(())
+}
+
+// The last two lines are labels that an index may have alone, and not under outer ids.
+#[test]
+fn the_first_fault_is_named(rt: HostRuntime) -> Result<(), Fail> {
+    check_changes(&rt, rt.alloc(), FLAT, FLAT_FAULTS)?;
+    check_changes(&rt, rt.alloc(), HASH, HASH_FAULTS)?;
+    check_changes(&rt, rt.alloc(), MULTI, MULTI_FAULTS)?;
+    check_changes(&rt, rt.alloc(), IVF, IVF_FAULTS)?;
+    check_changes(&rt, rt.alloc(), DIRECT, DIRECT_FAULTS)?;
+    check_changes(&rt, rt.alloc(), MAPPED, MAPPED_FAULTS)?;
+    let hash = mapped(rt.alloc(), HASH, &[7, 8, 9])?;
+    check_changes(
+        &rt,
+        rt.alloc(),
+        &hash,
+        &[(89, b"\x03", 89, Reason::IdRange)],
+    )?;
+    let ivf = mapped(rt.alloc(), IVF, &[7])?;
+    check_changes(
+        &rt,
+        rt.alloc(),
+        &ivf,
+        &[(159, b"\x01", 159, Reason::IdRange)],
+    )
+}
+
+#[test]
+fn many_codes_are_read_in_pieces(rt: HostRuntime) -> Result<(), Fail> {
+    let mut flat = Vec::from_slice(rt.alloc(), MANY_FLAT)?;
+    flat.resize(80_033, 0)?;
+    check_whole(&rt, rt.alloc(), &flat, 40_000)?;
+    let mut ivf = Vec::from_slice(rt.alloc(), MANY_IVF)?;
+    ivf.resize(400_125, 0)?;
+    check_whole(&rt, rt.alloc(), &ivf, 40_000)?;
+    let mut hash = Vec::from_slice(rt.alloc(), MANY_HASH)?;
+    hash.resize(320_064, 0)?;
+    hash.extend_from_slice(b"\x80\x38\x01\0\0\0\0\0")?;
+    hash.resize(400_072, 0)?;
+    check_whole(&rt, rt.alloc(), &hash, 40_000)?;
+    let mut multi = Vec::from_slice(rt.alloc(), MANY_MULTI)?;
+    multi.resize(80_058, 0)?;
+    multi.extend_from_slice(MANY_POSITIONS)?;
+    for position in 0..40_000u16 {
+        multi.extend_from_slice(&position.to_le_bytes())?;
+    }
+    check_whole(&rt, rt.alloc(), &multi, 40_000)
 }

@@ -15,7 +15,7 @@ use outside::Shelf;
 use std::alloc::Global;
 
 // The most bytes of codes that are read at once, where a code has no more.
-const PIECE: usize = 65_536;
+pub const PIECE: usize = 65_536;
 
 // What follows the letters of a Flat.
 #[tactic(auto, unfolding(crate::specs::FlatFormat::flat_body), using(file_parts::proofs::Reading::run_then))]
@@ -51,7 +51,7 @@ pub fn dim_of(d: u32) -> Dim
 }
 
 #[tactic(auto, unfolding(crate::specs::FlatFormat::code_bytes_field), using(file_parts::proofs::FeedLemmas::checked_gives))]
-fn read_code_bytes<H: Shelf>(feed: &mut Feed<'_, H>, head: Head) -> Result<u64, PartError>
+pub fn read_code_bytes<H: Shelf>(feed: &mut Feed<'_, H>, head: Head) -> Result<u64, PartError>
     requires { IsTrue (H.is_reading (shelf_of feed.old)) }
     ensures gives { GivesField H.contents (λ n. n) (code_bytes_field (view_head head))
         feed.old feed.new result }

@@ -3,13 +3,16 @@ ghost use Rattle.any_index.specs.Kinds.{inner_value};
 ghost use Rattle.file_parts.specs.Fields.{any_signed, repeated};
 ghost use Rattle.file_parts.specs.Feeding.{GivesField, StaysOver, shelf_of};
 ghost use Rattle.file_parts.specs.Heads.{view_head};
-ghost use Rattle.index_files.specs.FileFormat.{body, file_of, id_count_field, index};
+ghost use Rattle.index_files.specs.FileFormat.{body, file, id_count_field, index};
 ghost use Rattle.index_files.specs.FileFormat.{map_body, map_start, outer_ids};
 ghost use Rattle.index_files.specs.Laws.{FitsRole, IsBodyRole};
-ghost use Rattle.index_files.specs.Letters.{is_index, is_plain, is_read, letters};
+ghost use Rattle.index_files.specs.Letters.{is_index, is_plain, letters};
 ghost use Rattle.index_files.specs.declared.start.Start.TheVariants as start;
 
 use crate::reading::flat::read_flat;
+use crate::reading::hash::read_hash;
+use crate::reading::ivf::read_ivf;
+use crate::reading::multi::read_multi;
 use crate::reading::start::{Wanted, read_start};
 use crate::{KindName, Start};
 use any_index::{AnyIndex, InnerIndex};
@@ -19,10 +22,10 @@ use outside::Shelf;
 use std::alloc::Global;
 
 // A whole index, with its letters.
-#[tactic(auto, unfolding(crate::specs::FileFormat::file_of), using(file_parts::proofs::Reading::run_then))]
+#[tactic(auto, unfolding(crate::specs::FileFormat::file), using(file_parts::proofs::Reading::run_then))]
 pub fn read_file<H: Shelf>(alloc: Global, feed: &mut Feed<'_, H>) -> Result<AnyIndex, PartError>
     requires { IsTrue (H.is_reading (shelf_of feed.old)) }
-    ensures gives { GivesField H.contents (λ index. index) (file_of is_read)
+    ensures gives { GivesField H.contents (λ index. index) file
         feed.old feed.new result }
     ensures shelf { StaysOver H.contents H.is_reading H.faults feed.old feed.new
         (IsErrOf result PartError.Failed) }
@@ -39,8 +42,8 @@ fn read_index<H: Shelf>(
     start: Start,
 ) -> Result<AnyIndex, PartError>
     requires reading { IsTrue (H.is_reading (shelf_of feed.old)) }
-    requires wanted { IsTrue (is_index is_read start) }
-    ensures gives { GivesField H.contents (λ index. index) (index is_read start)
+    requires wanted { IsTrue (is_index start) }
+    ensures gives { GivesField H.contents (λ index. index) (index start)
         feed.old feed.new result }
     ensures shelf { StaysOver H.contents H.is_reading H.faults feed.old feed.new
         (IsErrOf result PartError.Failed) }
@@ -59,9 +62,8 @@ fn read_plain<H: Shelf>(
     feed: &mut Feed<'_, H>,
     kind: KindName,
 ) -> Result<AnyIndex, PartError>
-    requires reading { IsTrue (H.is_reading (shelf_of feed.old)) }
-    requires kind { IsTrue (is_read kind) }
-    ensures gives { GivesField H.contents (λ index. index) (index is_read (start.Plain kind))
+    requires { IsTrue (H.is_reading (shelf_of feed.old)) }
+    ensures gives { GivesField H.contents (λ index. index) (index (start.Plain kind))
         feed.old feed.new result }
     ensures shelf { StaysOver H.contents H.is_reading H.faults feed.old feed.new
         (IsErrOf result PartError.Failed) }
@@ -78,7 +80,7 @@ fn read_mapped<H: Shelf>(
     name: MapName,
 ) -> Result<AnyIndex, PartError>
     requires { IsTrue (H.is_reading (shelf_of feed.old)) }
-    ensures gives { GivesField H.contents (λ index. index) (index is_read (start.Mapped name))
+    ensures gives { GivesField H.contents (λ index. index) (index (start.Mapped name))
         feed.old feed.new result }
     ensures shelf { StaysOver H.contents H.is_reading H.faults feed.old feed.new
         (IsErrOf result PartError.Failed) }
@@ -97,7 +99,7 @@ fn read_map_start<H: Shelf>(
     head: Head,
 ) -> Result<AnyIndex, PartError>
     requires { IsTrue (H.is_reading (shelf_of feed.old)) }
-    ensures gives { GivesField H.contents (λ index. index) (map_start is_read name (view_head head))
+    ensures gives { GivesField H.contents (λ index. index) (map_start name (view_head head))
         feed.old feed.new result }
     ensures shelf { StaysOver H.contents H.is_reading H.faults feed.old feed.new
         (IsErrOf result PartError.Failed) }
@@ -116,8 +118,7 @@ fn read_map_body<H: Shelf>(
     kind: KindName,
     head: Head,
 ) -> Result<AnyIndex, PartError>
-    requires reading { IsTrue (H.is_reading (shelf_of feed.old)) }
-    requires kind { IsTrue (is_read kind) }
+    requires { IsTrue (H.is_reading (shelf_of feed.old)) }
     ensures gives { GivesField H.contents (λ index. index) (map_body name kind head.dim head.count)
         feed.old feed.new result }
     ensures shelf { StaysOver H.contents H.is_reading H.faults feed.old feed.new
@@ -133,14 +134,13 @@ fn read_map_body<H: Shelf>(
     Ok(index)
 }
 
-// The letters of an index of one of the kinds that are read.
+// The letters of an index of one of the four kinds.
 fn read_kind<H: Shelf>(feed: &mut Feed<'_, H>) -> Result<KindName, PartError>
     requires { IsTrue (H.is_reading (shelf_of feed.old)) }
-    ensures gives { GivesField H.contents (λ kind. start.Plain kind) (letters (is_plain is_read))
+    ensures gives { GivesField H.contents (λ kind. start.Plain kind) (letters is_plain)
         feed.old feed.new result }
     ensures shelf { StaysOver H.contents H.is_reading H.faults feed.old feed.new
         (IsErrOf result PartError.Failed) }
-    ensures kind { IfOk result (λ kind. IsTrue (is_read kind)) }
 {
     match read_start(feed, Wanted::Plain)? {
         Start::Plain(kind) => Ok(kind),
@@ -157,7 +157,6 @@ fn read_inner<H: Shelf>(
     role: Role,
 ) -> Result<InnerIndex, PartError>
     requires reading { IsTrue (H.is_reading (shelf_of feed.old)) }
-    requires kind { IsTrue (is_read kind) }
     requires role { IsBodyRole role }
     ensures gives { GivesField H.contents (λ inner. inner_value inner) (body kind role)
         feed.old feed.new result }
@@ -170,7 +169,18 @@ fn read_inner<H: Shelf>(
             let flat = read_flat(alloc, feed, role)?;
             Ok(InnerIndex::Flat(flat))
         }
-        KindName::Ivf | KindName::Hash | KindName::Multi => unreachable!(),
+        KindName::Ivf => {
+            let ivf = read_ivf(alloc, feed, role)?;
+            Ok(InnerIndex::Ivf(ivf))
+        }
+        KindName::Hash => {
+            let hash = read_hash(alloc, feed, role)?;
+            Ok(InnerIndex::Hash(hash))
+        }
+        KindName::Multi => {
+            let multi = read_multi(alloc, feed, role)?;
+            Ok(InnerIndex::Multi(multi))
+        }
     }
 }
 

@@ -1,15 +1,14 @@
 ghost use Rattle.std.specs.Prelude.{◌≡◌, ◌^◌, ◌<◌, [], Err, Ok, IfOk, IsErrOf, IsTrue};
 ghost use Rattle.std.specs.List.{All};
 ghost use Rattle.outside.specs.Calls.{KeepsFiles};
-ghost use Rattle.outside.specs.Causes.{HasCause};
+ghost use Rattle.outside.specs.Causes.{CountsFailure};
 ghost use Rattle.bcodes.specs.Value.{IndexValue};
 ghost use Rattle.file_parts.specs.declared.file_fault.FileFault.{FileFault};
 ghost use Rattle.file_parts.specs.Feeding.{Decodes, IsTold, StaysOver, bytes_from};
 ghost use Rattle.file_parts.specs.Feeding.{place, shelf_of};
 ghost use Rattle.file_parts.specs.Format.{FirstFault, ended, read, run};
-ghost use Rattle.index_files.specs.FileFormat.{file_of};
-ghost use Rattle.index_files.specs.Laws.{IsFileOf};
-ghost use Rattle.index_files.specs.Letters.{is_read};
+ghost use Rattle.index_files.specs.File.{IsFile};
+ghost use Rattle.index_files.specs.FileFormat.{file};
 ghost use Rattle.index_files.specs.Loading.{Loads};
 
 use crate::LoadError;
@@ -31,21 +30,21 @@ pub fn decode<H: Shelf>(alloc: Global, shelf: &mut H) -> Result<AnyIndex, LoadEr
     // What is accepted is a file of that value ..
     ensures ok { IsTold (H.contents shelf.old)
         → All (λ x. x < 2 ^ 8) (bytes_from [] (H.contents shelf.old))
-        → IfOk result (IsFileOf is_read (bytes_from [] (H.contents shelf.old))) }
+        → IfOk result (λ v. IsFile v (bytes_from [] (H.contents shelf.old))) }
     // .. and a file of a value gives that value, unless the shelf failed or memory ran out.
     ensures only { IsTold (H.contents shelf.old) → (v : IndexValue)
-        → IsFileOf is_read (bytes_from [] (H.contents shelf.old)) v → Loads result (Ok v) }
+        → IsFile v (bytes_from [] (H.contents shelf.old)) → Loads result (Ok v) }
     // What is refused has that first fault ..
     ensures bad { IsTold (H.contents shelf.old) → (fault : FileFault)
         → result ≡ Err (LoadError.Bad fault)
-        → FirstFault (file_of is_read) (bytes_from [] (H.contents shelf.old)) fault }
+        → FirstFault file (bytes_from [] (H.contents shelf.old)) fault }
     // .. and a first fault is answered, unless the shelf failed or memory ran out.
     ensures first { IsTold (H.contents shelf.old) → (fault : FileFault)
-        → FirstFault (file_of is_read) (bytes_from [] (H.contents shelf.old)) fault
+        → FirstFault file (bytes_from [] (H.contents shelf.old)) fault
         → Loads result (Err fault) }
     ensures files { KeepsFiles (H.contents shelf.old) (H.contents shelf.new) }
     ensures reading { H.is_reading shelf.new ≡ H.is_reading shelf.old }
-    ensures cause { HasCause (H.faults shelf.old) (H.faults shelf.new)
+    ensures cause { CountsFailure (H.faults shelf.old) (H.faults shelf.new)
         (IsErrOf result LoadError.Failed) }
 {
     let index = decode_fields(alloc, shelf)?;
@@ -57,10 +56,10 @@ fn decode_fields<H: Shelf>(alloc: Global, shelf: &mut H) -> Result<AnyIndex, Par
     requires { IsTrue (H.is_reading shelf.old) }
     ensures exact { IsTold (H.contents shelf.old)
         → Decodes (λ index. index) result
-        (read (file_of is_read) (bytes_from [] (H.contents shelf.old))) }
+        (read file (bytes_from [] (H.contents shelf.old))) }
     ensures files { KeepsFiles (H.contents shelf.old) (H.contents shelf.new) }
     ensures reading { H.is_reading shelf.new ≡ H.is_reading shelf.old }
-    ensures cause { HasCause (H.faults shelf.old) (H.faults shelf.new)
+    ensures cause { CountsFailure (H.faults shelf.old) (H.faults shelf.new)
         (IsErrOf result PartError.Failed) }
 {
     let mut feed = Feed::new(shelf);
@@ -73,7 +72,7 @@ fn read_whole<H: Shelf>(alloc: Global, feed: &mut Feed<'_, H>) -> Result<AnyInde
     requires { IsTrue (H.is_reading (shelf_of feed.old)) }
     ensures exact { IsTold (H.contents (shelf_of feed.old))
         → Decodes (λ index. index) result
-        (ended (run (file_of is_read) (place H.contents feed.old))) }
+        (ended (run file (place H.contents feed.old))) }
     ensures shelf { StaysOver H.contents H.is_reading H.faults feed.old feed.new
         (IsErrOf result PartError.Failed) }
 {

@@ -1,6 +1,6 @@
 ghost use Rattle.std.specs.Prelude.{◌≡◌, IfOk, IsErrOf, IsTrue};
 ghost use Rattle.file_parts.specs.Feeding.{GivesField, StaysOver, shelf_of};
-ghost use Rattle.index_files.specs.Letters.{is_known, is_read, is_wanted, letters, start_of};
+ghost use Rattle.index_files.specs.Letters.{is_known, is_wanted, letters, start_of};
 
 use crate::{KindName, Start};
 use bcodes::MapName;
@@ -24,7 +24,7 @@ impl Wanted {
     {
         match start {
             Start::Plain(kind) => match self {
-                Wanted::Index | Wanted::Plain => is_read(kind),
+                Wanted::Index | Wanted::Plain => true,
                 Wanted::Flat => kind.is_flat(),
             },
             Start::Mapped(_) => match self {
@@ -64,16 +64,6 @@ fn is_known(start: Start) -> bool
     match start {
         Start::Plain(_) | Start::Mapped(_) | Start::NotRead => true,
         Start::Unknown => false,
-    }
-}
-
-// The kinds whose files are read.
-fn is_read(kind: KindName) -> bool
-    ensures { result ≡ is_read kind }
-{
-    match kind {
-        KindName::Flat => true,
-        KindName::Ivf | KindName::Hash | KindName::Multi => false,
     }
 }
 

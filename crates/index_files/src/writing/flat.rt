@@ -1,7 +1,8 @@
 ghost use Rattle.std.specs.Prelude.{◌≡◌, IsTrue, IsErrOf, OnOk};
-ghost use Rattle.file_parts.specs.Storing.{GoesOn, behind, maker_of, written};
+ghost use Rattle.file_parts.specs.Storing.{behind, maker_of, written};
 ghost use Rattle.index_files.specs.Canon.{flat_bytes};
 ghost use Rattle.index_files.specs.Groups.{concat};
+ghost use Rattle.index_files.specs.Writing.{Writes};
 
 use crate::writing::parts::write_head;
 use bcodes::{BinaryIndex, Meter, Plain};
@@ -18,7 +19,7 @@ pub fn write_flat<H: Shelf>(
     requires { IsTrue (H.is_making (maker_of store.old)) }
     ensures ok { OnOk result (written H.contents store.new
         ≡ behind (flat_bytes flat.now.dim flat.now.codes) (written H.contents store.old)) }
-    ensures shelf { GoesOn H.contents H.is_making H.faults store.old store.new result
+    ensures shelf { Writes H.contents H.is_making H.faults store.old store.new result
         (IsErrOf result Trouble.Failed) }
 {
     let dim = flat.dim();
@@ -39,7 +40,7 @@ fn write_codes<H: Shelf>(
     requires { IsTrue (H.is_making (maker_of store.old)) }
     ensures ok { OnOk result (written H.contents store.new
         ≡ behind (concat flat.now.codes) (written H.contents store.old)) }
-    ensures shelf { GoesOn H.contents H.is_making H.faults store.old store.new result
+    ensures shelf { Writes H.contents H.is_making H.faults store.old store.new result
         (IsErrOf result Trouble.Failed) }
 {
     let count = flat.count();

@@ -1,6 +1,7 @@
 ghost use Rattle.std.specs.Prelude.{◌≡◌, IsTrue, IsErrOf, OnOk};
-ghost use Rattle.file_parts.specs.Storing.{GoesOn, behind, maker_of, written};
+ghost use Rattle.file_parts.specs.Storing.{behind, maker_of, written};
 ghost use Rattle.index_files.specs.Canon.{bit_of, head, ids_bytes};
+ghost use Rattle.index_files.specs.Writing.{Writes};
 
 use bcodes::Dim;
 use byteorder::{ByteOrder, LittleEndian};
@@ -23,7 +24,7 @@ pub fn write_head<H: Shelf>(
     requires { IsTrue (H.is_making (maker_of store.old)) }
     ensures ok { OnOk result (written H.contents store.new
         ≡ behind (head dim.bits count trained) (written H.contents store.old)) }
-    ensures shelf { GoesOn H.contents H.is_making H.faults store.old store.new result
+    ensures shelf { Writes H.contents H.is_making H.faults store.old store.new result
         (IsErrOf result Trouble.Failed) }
 {
     let bits = dim.bits();
@@ -35,7 +36,7 @@ pub fn write_head<H: Shelf>(
     Ok(())
 }
 
-fn flag_byte(flag: bool) -> u8
+pub fn flag_byte(flag: bool) -> u8
     ensures { result ≡ bit_of flag }
 {
     match flag {
@@ -48,7 +49,7 @@ pub fn write_ids<H: Shelf>(store: &mut Store<'_, H>, ids: &[i64]) -> Result<(), 
     requires { IsTrue (H.is_making (maker_of store.old)) }
     ensures ok { OnOk result (written H.contents store.new
         ≡ behind (ids_bytes ids.now) (written H.contents store.old)) }
-    ensures shelf { GoesOn H.contents H.is_making H.faults store.old store.new result
+    ensures shelf { Writes H.contents H.is_making H.faults store.old store.new result
         (IsErrOf result Trouble.Failed) }
 {
     let mut buffer = [0u8; 8 * PIECE_IDS];

@@ -1,14 +1,11 @@
-ghost use Rattle.std.specs.Prelude.{◌≡◌, ◌↔◌, length, is_ok, Err, Some, IfOk, IsErrOf, IsSome};
+ghost use Rattle.std.specs.Prelude.{◌≡◌, ◌↔◌, length, true, Err, Some, IfOk, IsErrOf, IsSome};
 ghost use Rattle.std.specs.Prelude.{IsTrue, OnOk};
 ghost use Rattle.outside.specs.Calls.{WhereTold};
-ghost use Rattle.outside.specs.Causes.{HasCause};
-ghost use Rattle.bcodes.specs.Value.{inner_of};
+ghost use Rattle.outside.specs.Causes.{CountsFailure};
 ghost use Rattle.multi_hash.specs.Wide.{wide};
 ghost use Rattle.multi_hash.specs.declared.wide.Wide.{Wide};
 ghost use Rattle.file_parts.specs.Storing.{files_in, made_in, put_behind};
 ghost use Rattle.index_files.specs.Canon.{canon};
-ghost use Rattle.index_files.specs.Laws.{name_of};
-ghost use Rattle.index_files.specs.Letters.{is_read};
 ghost use Rattle.index_files.specs.Saving.{Saves};
 
 use crate::SaveError;
@@ -31,16 +28,15 @@ use std::alloc::Global;
 /// The files are then as before, or, at `Failed`, with the new file.
 #[tactic(auto, using(crate::proofs::SaveLemmas::not_begun, crate::proofs::SaveLemmas::not_written, crate::proofs::SaveLemmas::was_kept))]
 pub fn encode<H: Shelf>(
-    _alloc: Global,
+    alloc: Global,
     index: &AnyIndex,
     name: &str,
     shelf: &mut H,
 ) -> Result<u64, SaveError>
-    requires { IsTrue (is_read (name_of (inner_of index.now))) }
     ensures bytes { IfOk result (λ n. n ≡ length (canon index.now)) }
     ensures files { WhereTold (H.contents shelf.old) (H.contents shelf.new)
         (Saves name.now (canon index.now) result) }
-    ensures cause { HasCause (H.faults shelf.old) (H.faults shelf.new)
+    ensures cause { CountsFailure (H.faults shelf.old) (H.faults shelf.new)
         (IsErrOf result SaveError.Failed) }
     ensures wide { (w : Wide)
         → (result ≡ Err (SaveError.BucketBits w)) ↔ (wide index.now ≡ Some w) }
@@ -50,7 +46,7 @@ pub fn encode<H: Shelf>(
         return Err(SaveError::BucketBits(wide));
     }
     shelf.create(name)?;
-    let count = write_file(shelf, index)?;
+    let count = write_file(alloc, shelf, index)?;
     shelf.keep()?;
     Ok(count)
 }
@@ -66,20 +62,19 @@ fn wide_of(index: &AnyIndex) -> Option<Wide>
 }
 
 // Writes the file that is being made, and gives the number of its bytes.
-fn write_file<H: Shelf>(shelf: &mut H, index: &AnyIndex) -> Result<u64, Trouble>
-    requires making { IsTrue (H.is_making shelf.old) }
-    requires kind { IsTrue (is_read (name_of (inner_of index.now))) }
+fn write_file<H: Shelf>(alloc: Global, shelf: &mut H, index: &AnyIndex) -> Result<u64, Trouble>
+    requires { IsTrue (H.is_making shelf.old) }
     ensures bytes { IfOk result (λ n. n ≡ length (canon index.now)) }
     ensures ok { OnOk result (made_in (H.contents shelf.new)
         ≡ put_behind (canon index.now) (made_in (H.contents shelf.old))) }
     ensures files { files_in (H.contents shelf.new) ≡ files_in (H.contents shelf.old) }
-    ensures making { H.is_making shelf.new ≡ is_ok result }
-    ensures cause { HasCause (H.faults shelf.old) (H.faults shelf.new)
+    ensures making { OnOk result (H.is_making shelf.new ≡ true) }
+    ensures cause { CountsFailure (H.faults shelf.old) (H.faults shelf.new)
         (IsErrOf result Trouble.Failed) }
 {
     let _dim = index.dim();
     let mut meter = Meter::new(Plain);
     let mut store = Store::new(shelf);
-    write_index(&mut store, index, &mut meter)?;
+    write_index(alloc, &mut store, index, &mut meter)?;
     Ok(store.at())
 }

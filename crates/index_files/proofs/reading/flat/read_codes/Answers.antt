@@ -1,4 +1,4 @@
-use Rattle.std.proofs.Common.{◌≡◌, ℕ, ◌+◌, ◌-◌, ◌/◌, ◌≤◌, List, ◌++◌, length, sym, ap}
+use Rattle.std.proofs.Common.{rules, ◌≡◌, ℕ, ◌+◌, ◌-◌, ◌/◌, ◌≤◌, List, ◌++◌, length, sym, ap}
 use Rattle.std.proofs.Common.{subst, ◌∙◌, arith, length-append}
 use Rattle.std.proofs.lemmas.Result.{err_from_is_err_and}
 use Rattle.bcodes.specs.Ranges.{load_limit}
@@ -45,7 +45,7 @@ loop-done-preserved g c =
       same_shelf = c.in_ok-codes.ensures.shelf.same_shelf ∙ inv.same_shelf;
       files = keeps_then _ _ _ inv.files c.in_ok-codes.ensures.shelf.files;
       reading = c.in_ok-codes.ensures.shelf.reading ∙ inv.reading;
-      later = omega (arith, inv.later, c.in_ok-codes.ensures.shelf.cause.later);
+      count_stays = search rules;
     }
 
 pub returns-in_err-codes-clause-gives : goal.returns-in_err-codes-clause-gives

@@ -18,7 +18,7 @@ invariant-loop-done g l = record {
   same_shelf : name_of l.feed ≡ name_of l.fn.feed;
   files : KeepsFiles (g.H.Shelf.contents (shelf_of l.fn.feed)) (g.H.Shelf.contents (shelf_of l.feed));
   reading : g.H.Shelf.is_reading (shelf_of l.feed) ≡ g.H.Shelf.is_reading (shelf_of l.fn.feed);
-  later : g.H.Shelf.faults (shelf_of l.fn.feed) ≤ g.H.Shelf.faults (shelf_of l.feed);
+  count_stays : g.H.Shelf.faults (shelf_of l.feed) ≡ g.H.Shelf.faults (shelf_of l.fn.feed);
 }
 
 abbrev pub decreases-loop-done : goal.decreases-loop-done

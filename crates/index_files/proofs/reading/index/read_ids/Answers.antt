@@ -29,7 +29,7 @@ loop-preserved g c =
       same_shelf = c.in_ok-id.ensures.shelf.same_shelf ∙ inv.same_shelf;
       files = keeps_then _ _ _ inv.files c.in_ok-id.ensures.shelf.files;
       reading = c.in_ok-id.ensures.shelf.reading ∙ inv.reading;
-      later = omega (arith, inv.later, c.in_ok-id.ensures.shelf.cause.later);
+      count_stays = search rules;
     }
 
 pub returns-in_err-id-clause-gives : goal.returns-in_err-id-clause-gives

@@ -1,4 +1,4 @@
-use Rattle.std.proofs.Common.{◌≡◌, ◌-◌, ◌≤◌, length}
+use Rattle.std.proofs.Common.{◌≡◌, ◌-◌, length}
 use Rattle.outside.specs.Calls.{KeepsFiles}
 use Rattle.file_parts.specs.Format.{run}
 use Rattle.file_parts.specs.Fields.{any_signed, repeated}
@@ -15,5 +15,5 @@ invariant-loop g l = record {
   same_shelf : name_of l.feed ≡ name_of l.fn.feed;
   files : KeepsFiles (g.H.Shelf.contents (shelf_of l.fn.feed)) (g.H.Shelf.contents (shelf_of l.feed));
   reading : g.H.Shelf.is_reading (shelf_of l.feed) ≡ g.H.Shelf.is_reading (shelf_of l.fn.feed);
-  later : g.H.Shelf.faults (shelf_of l.fn.feed) ≤ g.H.Shelf.faults (shelf_of l.feed);
+  count_stays : g.H.Shelf.faults (shelf_of l.feed) ≡ g.H.Shelf.faults (shelf_of l.fn.feed);
 }

@@ -1,4 +1,4 @@
-use Rattle.std.proofs.Common.{◌≡◌, ℕ, ◌+◌, ◌<◌, ◌≤◌, List, [], ◌++◌, length, drop, refl, sym}
+use Rattle.std.proofs.Common.{rules, ◌≡◌, ℕ, ◌+◌, ◌<◌, ◌≤◌, List, [], ◌++◌, length, drop, refl, sym}
 use Rattle.std.proofs.Common.{ap, ◌∙◌, arith}
 use Rattle.std.proofs.lemmas.List.{drop_all}
 use Rattle.bcodes.specs.Value.{Row, numbered}
@@ -18,7 +18,7 @@ loop-from-init g c =
           (numbered_bytes 0 c.args.flat.now.codes);
       files = refl;
       making = c.requires;
-      later = omega arith;
+      count_stays = refl;
     }
 
 pub overflow_add-from : goal.overflow_add-from
@@ -39,7 +39,7 @@ loop-from-preserved g c =
           c.lend-run.ensures.run) c.loop-from.invariant.rest;
       files = c.in_ok-bytes.ensures.shelf.files ∙ c.loop-from.invariant.files;
       making = c.in_ok-bytes.ensures.shelf.making;
-      later = omega (arith, c.loop-from.invariant.later, c.in_ok-bytes.ensures.shelf.cause.later);
+      count_stays = search rules;
     }
 
 pub returns-clause-ok : goal.returns-clause-ok

@@ -1,4 +1,4 @@
-use Rattle.std.proofs.Common.{◌≡◌, ◌-◌, ◌≤◌, drop, true}
+use Rattle.std.proofs.Common.{◌≡◌, ◌-◌, drop, true}
 use Rattle.bcodes.specs.Value.{numbered}
 use Rattle.file_parts.specs.Storing.{behind, files_in, maker_of, name_of, written}
 use Rattle.index_files.specs.Groups.{concat}
@@ -13,7 +13,7 @@ invariant-loop-from g l = record {
       ≡ behind (concat l.flat.codes) (written g.H.Shelf.contents l.fn.store);
   files : files_in (g.H.Shelf.contents (maker_of l.store)) ≡ files_in (g.H.Shelf.contents (maker_of l.fn.store));
   making : g.H.Shelf.is_making (maker_of l.store) ≡ true;
-  later : g.H.Shelf.faults (maker_of l.fn.store) ≤ g.H.Shelf.faults (maker_of l.store);
+  count_stays : g.H.Shelf.faults (maker_of l.store) ≡ g.H.Shelf.faults (maker_of l.fn.store);
 }
 
 abbrev pub decreases-loop-from : goal.decreases-loop-from

@@ -1,4 +1,4 @@
-use Rattle.std.proofs.Common.{◌≡◌, ℕ, ℤ, ◌+◌, ◌-◌, ◌<◌, ◌≤◌, List, [], ◌++◌, length}
+use Rattle.std.proofs.Common.{rules, ◌≡◌, ℕ, ℤ, ◌+◌, ◌-◌, ◌<◌, ◌≤◌, List, [], ◌++◌, length}
 use Rattle.std.proofs.Common.{drop, refl, sym, ap, ◌∙◌, arith, take}
 use Rattle.std.specs.Int.{w64, cast_unsigned}
 use Rattle.std.specs.List.{flat_map}
@@ -28,7 +28,7 @@ loop-from-preserved g c =
           c.in_ok-bytes.ensures.ok (ids_part ids from n c.write_i64_into.new.dst piece) c.loop-from.invariant.rest;
       files = c.in_ok-bytes.ensures.shelf.files ∙ c.loop-from.invariant.files;
       making = c.in_ok-bytes.ensures.shelf.making;
-      later = omega (arith, c.loop-from.invariant.later, c.in_ok-bytes.ensures.shelf.cause.later);
+      count_stays = search rules;
     }
 
 pub returns-clause-ok : goal.returns-clause-ok

@@ -11,7 +11,7 @@ invariant-loop-from g l = record {
       ≡ behind (ids_bytes l.ids) (written g.H.Shelf.contents l.fn.store);
   files : files_in (g.H.Shelf.contents (maker_of l.store)) ≡ files_in (g.H.Shelf.contents (maker_of l.fn.store));
   making : g.H.Shelf.is_making (maker_of l.store) ≡ true;
-  later : g.H.Shelf.faults (maker_of l.fn.store) ≤ g.H.Shelf.faults (maker_of l.store);
+  count_stays : g.H.Shelf.faults (maker_of l.store) ≡ g.H.Shelf.faults (maker_of l.fn.store);
 }
 
 abbrev pub decreases-loop-from : goal.decreases-loop-from

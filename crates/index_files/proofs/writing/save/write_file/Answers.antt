@@ -9,7 +9,7 @@ unfolding behind
 returns-clause-bytes g c =
     let v = c.args.index.now in
     let whole = c.in_ok-write_index.ensures.ok ∙ ap (behind (canon v)) c.new-store.ensures.written in
-    all-written (length (canon v)) c.at.result (canon-few v c.requires.kind c.dim-dim.ensures.legal)
+    all-written (length (canon v)) c.at.result (canon-few v c.dim-dim.ensures.legal)
     (c.at.ensures ∙ ap (λ (w : Written). w.at) whole)
 
 pub returns-clause-ok : goal.returns-clause-ok
