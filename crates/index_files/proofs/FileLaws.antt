@@ -25,7 +25,8 @@ use Rattle.file_parts.proofs.Reading.{spells-split, spells-join, one_check, two_
 use Rattle.index_files.specs.Parts.{◌▸◌, Each, Signed, Vector, Head, HeadWhere}
 use Rattle.index_files.specs.File.{letters_of, map_letters, Rest, settled_inner, settled, IsFile}
 use Rattle.index_files.specs.Letters.{start_of, is_known, is_index, is_plain, letters}
-use Rattle.index_files.specs.FileFormat.{body, map_ids, id_count_field, map_body, inside, map_start, index, file}
+use Rattle.index_files.specs.Counts.{known_count}
+use Rattle.index_files.specs.FileFormat.{body, map_ids, map_body, inside, map_start, index, file}
 use Rattle.index_files.specs.declared.kind_name.KindName.{KindName}
 use Rattle.index_files.specs.declared.kind_name.KindName.TheVariants as named
 use Rattle.index_files.specs.declared.start.Start.{Start}
@@ -210,7 +211,7 @@ module _ (law : (kind : KindName) → KindLaw kind) where
       → (w : Inner) × (ids : List ℤ) × (v ≡ IdMap name w ids) × (name_of w ≡ kind)
       × (dim_of_inner w ≡ h.dim) × (count_of_inner w ≡ h.count) × IsLegalMap w ids
       × (settled_inner w ≡ w) × ◌▸◌ (Rest w) (Vector (Signed 8) ids) bytes
-  unfolding map_body id_count_field
+  unfolding map_body known_count
   map-found name kind h bytes v fits e =
       let s = spells-split (body kind (Within h.dim h.count)) (map_ids name h.count) bytes v e in
       let b = (law kind).found (Within h.dim h.count) s.front s.value tt
@@ -322,7 +323,7 @@ module _ (law : (kind : KindName) → KindLaw kind) where
   map-again : (name : MapName) (w : Inner) (ids : List ℤ) (bytes : List ℕ)
       → IsLegalMap w ids → settled_inner w ≡ w → ◌▸◌ (Rest w) (Vector (Signed 8) ids) bytes
       → Spells (map_body name (name_of w) (dim_of_inner w) (count_of_inner w)) bytes (IdMap name w ids)
-  unfolding map_body id_count_field
+  unfolding map_body known_count
   map-again name w ids bytes legal rows (front, back, parts, rest, (cnt, els, p5, num, each)) =
       let b = (law (name_of w)).again (Within (dim_of_inner w) (count_of_inner w)) front w tt
       (record {

@@ -29,9 +29,10 @@ use Rattle.hash_index.specs.Keys.{hash_keys, bucket, key_of}
 use Rattle.index_files.specs.Canon.{bit_length}
 use Rattle.index_files.specs.File.{HoldsBuckets, hash_bits, BucketPart, HashRest, settled_inner}
 use Rattle.index_files.specs.FlatFormat.{is_inside, is_no_place}
+use Rattle.index_files.specs.Counts.{known_count}
 use Rattle.index_files.specs.HashFormat.{KeySize, buckets_in, bucket_rows, all_rows, hash_body, hash_rest, b_field}
 use Rattle.index_files.specs.HashFormat.{nflip_field, hash_buckets, bucket_count_field, width_field, buckets_of}
-use Rattle.index_files.specs.HashFormat.{known_count, run_field}
+use Rattle.index_files.specs.HashFormat.{run_field}
 use Rattle.index_files.specs.declared.kind_name.KindName.TheVariants as named
 use Rattle.index_files.specs.FileFormat.{body}
 use Rattle.index_files.specs.Laws.{FitsRole, IsBodyRole}

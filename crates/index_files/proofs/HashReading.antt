@@ -33,9 +33,10 @@ use Rattle.file_parts.specs.Heads.{IsHead}
 use Rattle.file_parts.proofs.Reading.{◌>>>◌, run_then, okay, ok-is}
 use Rattle.file_parts.proofs.Repeats.{with_front}
 use Rattle.index_files.specs.Canon.{bit_length}
+use Rattle.index_files.specs.Counts.{known_count}
 use Rattle.index_files.specs.FlatFormat.{is_inside, is_no_place}
 use Rattle.index_files.specs.Groups.{concat}
-use Rattle.index_files.specs.HashFormat.{KeySize, all_rows, bucket_code, bucket_id, bucket_rows, hash_rows, known_count}
+use Rattle.index_files.specs.HashFormat.{KeySize, all_rows, bucket_code, bucket_id, bucket_rows, hash_rows}
 use Rattle.index_files.specs.HashFormat.{b_field, hash_buckets, hash_rest, nflip_field, rows_under}
 use Rattle.index_files.specs.HashReading.{behind_rows, Gains, GainsRows, PassIds}
 use Rattle.index_files.specs.Laws.{FitsRole, IsBodyRole}

@@ -25,8 +25,9 @@ use Rattle.index_files.specs.Canon.{bit_length}
 use Rattle.index_files.specs.File.{BucketPart}
 use Rattle.index_files.specs.FlatFormat.{is_inside, is_no_place}
 use Rattle.hash_index.specs.Keys.{key_of}
+use Rattle.index_files.specs.Counts.{known_count}
 use Rattle.index_files.specs.HashFormat.{KeySize, bucket_at, buckets_in, has_padding, bucket_checks, hash_run_checks}
-use Rattle.index_files.specs.HashFormat.{bucket_id, bucket_code, hash_rows, rows_under, bucket_rows, known_count}
+use Rattle.index_files.specs.HashFormat.{bucket_id, bucket_code, hash_rows, rows_under, bucket_rows}
 use Rattle.index_files.proofs.Heads.{pass_one}
 use Rattle.index_files.proofs.Elements.{IsBytes, front-bytes, back-bytes, repeated-found, repeated-again}
 use Rattle.index_files.proofs.FileLaws.{at_end, byte-at, signed-fits}

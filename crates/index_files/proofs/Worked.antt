@@ -18,13 +18,14 @@ use Rattle.bit_strings.specs.Packed.{low_bits, packed, bytes_of_bits}
 use Rattle.multi_hash.specs.Wide.{wide}
 use Rattle.index_files.specs.Canon.{bit_length, head as header_bytes, flat_bytes, canon}
 use Rattle.index_files.specs.Letters.{letters}
+use Rattle.index_files.specs.Counts.{known_count}
 use Rattle.index_files.specs.FlatFormat.{code_bytes_field, flat_body, flat_inside}
 use Rattle.index_files.specs.IvfFormat.{direct_map, full_sizes, sparse_sizes, list_sizes, list_id, list_rows, ivf_body}
 use Rattle.index_files.specs.HashFormat.{hash_run_checks, bucket_id, bucket_code, bucket_rows, hash_body}
 use Rattle.index_files.specs.HashFormat.{hash_rest, b_field, nflip_field, hash_buckets, bucket_count_field, width_field}
-use Rattle.index_files.specs.HashFormat.{buckets_of, known_count, run_field, all_rows, rows_under}
+use Rattle.index_files.specs.HashFormat.{buckets_of, run_field, all_rows, rows_under}
 use Rattle.index_files.specs.MultiFormat.{map_run_checks, map_fields, multi_body}
-use Rattle.index_files.specs.FileFormat.{file, body, map_body, id_count_field}
+use Rattle.index_files.specs.FileFormat.{file, body, map_body}
 
 abbrev pub Read : Type 0
 Read = Result IndexValue FileFault
@@ -177,7 +178,7 @@ accepted : Reads (
     ∷ (file_E, good value_E)
     ∷ (file_F, good (value_F 0 F_rows))
     ∷ [])
-unfolding file body map_body letters id_count_field code_bytes_field flat_body flat_inside direct_map
+unfolding file body map_body letters code_bytes_field flat_body flat_inside direct_map
     full_sizes sparse_sizes list_sizes list_id list_rows ivf_body hash_run_checks bucket_id bucket_code bucket_rows
     hash_body map_run_checks map_fields multi_body header dim_field code_size_field count_field flag_field
     hash_rest b_field nflip_field hash_buckets bucket_count_field width_field buckets_of known_count run_field all_rows
@@ -203,7 +204,7 @@ faulty_A : Reads (
       bad reason.Short 34,
     )
     ∷ [])
-unfolding file body map_body letters id_count_field code_bytes_field flat_body flat_inside direct_map
+unfolding file body map_body letters code_bytes_field flat_body flat_inside direct_map
     full_sizes sparse_sizes list_sizes list_id list_rows ivf_body hash_run_checks bucket_id bucket_code bucket_rows
     hash_body map_run_checks map_fields multi_body header dim_field code_size_field count_field flag_field
     hash_rest b_field nflip_field hash_buckets bucket_count_field width_field buckets_of known_count run_field all_rows
@@ -219,7 +220,7 @@ faulty_B : Reads (
     ∷ (patched 53 (0 ∷ 6 ∷ 0 ∷ []) file_B, bad reason.EmptyBucket 53)
     ∷ (patched 116 (2 ∷ 0 ∷ []) file_B, bad reason.WrongBucket 116)
     ∷ [])
-unfolding file body map_body letters id_count_field code_bytes_field flat_body flat_inside direct_map
+unfolding file body map_body letters code_bytes_field flat_body flat_inside direct_map
     full_sizes sparse_sizes list_sizes list_id list_rows ivf_body hash_run_checks bucket_id bucket_code bucket_rows
     hash_body map_run_checks map_fields multi_body header dim_field code_size_field count_field flag_field
     hash_rest b_field nflip_field hash_buckets bucket_count_field width_field buckets_of known_count run_field all_rows
@@ -234,7 +235,7 @@ faulty_C : Reads (
     ∷ (patched 96 (1 ∷ 83 ∷ []) file_C, bad reason.Positions 96)
     ∷ (patched 96 (2 ∷ 147 ∷ []) file_C, bad reason.WrongBucket 96)
     ∷ [])
-unfolding file body map_body letters id_count_field code_bytes_field flat_body flat_inside direct_map
+unfolding file body map_body letters code_bytes_field flat_body flat_inside direct_map
     full_sizes sparse_sizes list_sizes list_id list_rows ivf_body hash_run_checks bucket_id bucket_code bucket_rows
     hash_body map_run_checks map_fields multi_body header dim_field code_size_field count_field flag_field
     hash_rest b_field nflip_field hash_buckets bucket_count_field width_field buckets_of known_count run_field all_rows
@@ -250,7 +251,7 @@ faulty_D : Reads (
     ∷ (patched 109 (eight 0) file_D, bad reason.ListSizes 109)
     ∷ (patched 125 (eight 2) file_D, bad reason.ListSizes 125)
     ∷ [])
-unfolding file body map_body letters id_count_field code_bytes_field flat_body flat_inside direct_map
+unfolding file body map_body letters code_bytes_field flat_body flat_inside direct_map
     full_sizes sparse_sizes list_sizes list_id list_rows ivf_body hash_run_checks bucket_id bucket_code bucket_rows
     hash_body map_run_checks map_fields multi_body header dim_field code_size_field count_field flag_field
     hash_rest b_field nflip_field hash_buckets bucket_count_field width_field buckets_of known_count run_field all_rows
@@ -263,7 +264,7 @@ faulty_E : Reads (
     (patched 59 (eight 2) file_E, bad reason.VectorSize 59)
     ∷ (patched 25 (codes "IBM2") file_E, bad reason.LeftOut 25)
     ∷ [])
-unfolding file body map_body letters id_count_field code_bytes_field flat_body flat_inside direct_map
+unfolding file body map_body letters code_bytes_field flat_body flat_inside direct_map
     full_sizes sparse_sizes list_sizes list_id list_rows ivf_body hash_run_checks bucket_id bucket_code bucket_rows
     hash_body map_run_checks map_fields multi_body header dim_field code_size_field count_field flag_field
     hash_rest b_field nflip_field hash_buckets bucket_count_field width_field buckets_of known_count run_field all_rows
@@ -278,7 +279,7 @@ faulty_F : Reads (
     ∷ (patched 76 (2 ∷ []) file_F, bad reason.LeftOut 76)
     ∷ (patched 76 (3 ∷ []) file_F, bad reason.Number 76)
     ∷ [])
-unfolding file body map_body letters id_count_field code_bytes_field flat_body flat_inside direct_map
+unfolding file body map_body letters code_bytes_field flat_body flat_inside direct_map
     full_sizes sparse_sizes list_sizes list_id list_rows ivf_body hash_run_checks bucket_id bucket_code bucket_rows
     hash_body map_run_checks map_fields multi_body header dim_field code_size_field count_field flag_field
     hash_rest b_field nflip_field hash_buckets bucket_count_field width_field buckets_of known_count run_field all_rows
@@ -315,7 +316,7 @@ empty : Reads ((
     ∷ (empty_hash 0, good (value_B []))
     ∷ (empty_hash 1, bad reason.Bits 53)
     ∷ [])
-unfolding file body map_body letters id_count_field code_bytes_field flat_body flat_inside direct_map
+unfolding file body map_body letters code_bytes_field flat_body flat_inside direct_map
     full_sizes sparse_sizes list_sizes list_id list_rows ivf_body hash_run_checks bucket_id bucket_code bucket_rows
     hash_body map_run_checks map_fields multi_body header dim_field code_size_field count_field flag_field
     hash_rest b_field nflip_field hash_buckets bucket_count_field width_field buckets_of known_count run_field all_rows
@@ -328,7 +329,7 @@ cut : map (λ n. read file (take n file_A)) (range_with_len 0 34)
     ≡ map (bad reason.Short) (0 ∷ 0 ∷ 0 ∷ 0 ∷ 4 ∷ 4 ∷ 4 ∷ 4 ∷ 8 ∷ 8 ∷ 8 ∷ 8 ∷ 12 ∷ 12
     ∷ 12 ∷ 12 ∷ 12 ∷ 12 ∷ 12 ∷ 12 ∷ 20 ∷ 21 ∷ 21 ∷ 21 ∷ 21 ∷ 25 ∷ 25 ∷ 25 ∷ 25 ∷ 25
     ∷ 25 ∷ 25 ∷ 25 ∷ 33 ∷ [])
-unfolding file body map_body letters id_count_field code_bytes_field flat_body flat_inside direct_map
+unfolding file body map_body letters code_bytes_field flat_body flat_inside direct_map
     full_sizes sparse_sizes list_sizes list_id list_rows ivf_body hash_run_checks bucket_id bucket_code bucket_rows
     hash_body map_run_checks map_fields multi_body header dim_field code_size_field count_field flag_field
     hash_rest b_field nflip_field hash_buckets bucket_count_field width_field buckets_of known_count run_field all_rows

@@ -2,15 +2,15 @@
 use Rattle.std.specs.Prelude.{ℕ, ℤ, List, []}
 use Rattle.bcodes.specs.declared.map_name.MapName.{MapName}
 use Rattle.bcodes.specs.Value.{Inner, Flat, Ivf, Hash, Multi, IndexValue, Bare, IdMap}
-use Rattle.file_parts.specs.declared.reason.Reason.TheVariants as reason
 use Rattle.file_parts.specs.declared.role.Role.{Role}
 use Rattle.file_parts.specs.declared.role.Role.TheVariants.{Outermost, Within}
 use Rattle.file_parts.specs.Format.{Format, done, ◌>>=◌}
-use Rattle.file_parts.specs.Fields.{must_be, number, any_signed, repeated, HeadValue, header}
+use Rattle.file_parts.specs.Fields.{any_signed, repeated, HeadValue, header}
 use Rattle.index_files.specs.declared.kind_name.KindName.{KindName}
 use Rattle.index_files.specs.declared.kind_name.KindName.TheVariants as named
 use Rattle.index_files.specs.declared.start.Start.{Start}
 use Rattle.index_files.specs.declared.start.Start.TheVariants.{Plain, Mapped}
+use Rattle.index_files.specs.Counts.{known_count}
 use Rattle.index_files.specs.Letters.{is_index, is_plain, letters}
 use Rattle.index_files.specs.FlatFormat.{flat_value, flat_body}
 use Rattle.index_files.specs.IvfFormat.{ivf_body}
@@ -24,13 +24,10 @@ body named.Ivf role = ivf_body role >>= λ v. done (Ivf v)
 body named.Hash role = hash_body role >>= λ v. done (Hash v)
 body named.Multi role = multi_body role >>= λ v. done (Multi v)
 
-unfoldable pub id_count_field : ℕ → Format ℕ
-id_count_field count = number 8 (must_be count reason.VectorSize)
-
 -- the outer ids, with their count
 abbrev pub outer_ids : ℕ → Format (List ℤ)
 outer_ids count = do
-  size ← id_count_field count
+  size ← known_count count
   repeated count (any_signed 8)
 
 abbrev pub map_ids : MapName → ℕ → Inner → Format IndexValue

@@ -8,8 +8,8 @@ use Rattle.bcodes.specs.Ranges.{load_limit}
 use Rattle.file_parts.specs.declared.reason.Reason.TheVariants as reason
 use Rattle.file_parts.specs.declared.role.Role.{Role}
 use Rattle.file_parts.specs.Format.{Check, ◌⇒◌, Format, done, ◌>>=◌}
-use Rattle.file_parts.specs.Fields.{must_be, at_most, is_out, bytes_field, number, signed, each, repeated, HeadValue}
-use Rattle.file_parts.specs.Fields.{header}
+use Rattle.file_parts.specs.Fields.{at_most, is_out, bytes_field, number, signed, each, repeated, HeadValue, header}
+use Rattle.index_files.specs.Counts.{known_count}
 use Rattle.index_files.specs.Groups.{concat}
 use Rattle.index_files.specs.Canon.{bit_length}
 use Rattle.index_files.specs.FlatFormat.{is_inside, is_no_place}
@@ -67,10 +67,6 @@ bucket_code code_size b wanted =
 
 abbrev pub hash_rows : List (List ℕ) → List ℤ → List Row
 hash_rows codes ids = map (λ p. record { label = p.1; code = p.0 }) (zip codes ids)
-
--- the count of a vector, which the fields before it tell
-unfoldable pub known_count : ℕ → Format ℕ
-known_count n = number 8 (must_be n reason.VectorSize)
 
 -- the codes of a bucket, under these ids
 unfoldable pub rows_under : ℕ → ℕ → KeySize → List ℤ → Format (List Row)

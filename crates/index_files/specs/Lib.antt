@@ -1,4 +1,5 @@
 pub mod Groups
+pub mod Counts
 pub mod Parts
 pub mod File
 pub mod Canon

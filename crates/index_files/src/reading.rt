@@ -5,5 +5,6 @@ mod ivf;
 mod load;
 mod multi;
 mod start;
+mod wanted;
 
 pub use load::decode;

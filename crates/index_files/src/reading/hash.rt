@@ -9,7 +9,7 @@ ghost use Rattle.bcodes.specs.Value.{Hash as HashForm, empty_hash, weight};
 ghost use Rattle.file_parts.specs.Feeding.{GivesField, StaysOver, shelf_of};
 ghost use Rattle.file_parts.specs.Heads.{IsHead, view_head};
 ghost use Rattle.index_files.specs.HashFormat.{b_field, bucket_count_field, buckets_of, hash_body};
-ghost use Rattle.index_files.specs.HashFormat.{hash_buckets, hash_rest, known_count, nflip_field};
+ghost use Rattle.index_files.specs.HashFormat.{hash_buckets, hash_rest, nflip_field};
 ghost use Rattle.index_files.specs.HashFormat.{width_field};
 ghost use Rattle.index_files.specs.HashReading.{GainsRows};
 ghost use Rattle.index_files.specs.Laws.{FitsRole, IsBodyRole};
@@ -18,6 +18,7 @@ use crate::reading::flat::dim_of;
 use crate::reading::hash::packing::Packing;
 use crate::reading::hash::rows::read_all_rows;
 use crate::reading::hash::run::read_run;
+use crate::reading::wanted::read_wanted;
 use bcodes::{BinaryIndex, LOAD_LIMIT, Plain, Want};
 use file_parts::{Feed, Head, PartError, Reason, Role};
 use hash_index::Hash;
@@ -187,7 +188,7 @@ fn read_width<H: Shelf>(feed: &mut Feed<'_, H>) -> Result<u32, PartError>
 }
 
 // The packed run with its count of bytes, and the rows of its buckets.
-#[tactic(auto, unfolding(crate::specs::HashFormat::buckets_of), using(file_parts::proofs::Reading::run_then))]
+#[tactic(auto, unfolding(crate::specs::HashFormat::buckets_of, crate::specs::Counts::known_count), using(file_parts::proofs::Reading::run_then))]
 fn read_packed<H: Shelf>(
     alloc: Global,
     feed: &mut Feed<'_, H>,
@@ -210,25 +211,8 @@ fn read_packed<H: Shelf>(
 {
     let _dim = hash.dim();
     let bits = u64::from(packing.b + packing.width) * packing.count;
-    let bytes = read_known_count(feed, (bits + 7) / 8)?;
+    let bytes = read_wanted(feed, (bits + 7) / 8, Reason::VectorSize)?;
     let run = read_run(alloc, feed, packing, bytes)?;
     read_all_rows(alloc, feed, role, packing, &run, hash)?;
     Ok(())
-}
-
-// The count of a vector, which the fields before it tell.
-#[tactic(auto, unfolding(crate::specs::HashFormat::known_count), using(file_parts::proofs::FeedLemmas::checked_gives))]
-fn read_known_count<H: Shelf>(feed: &mut Feed<'_, H>, count: u64) -> Result<u64, PartError>
-    requires { IsTrue (H.is_reading (shelf_of feed.old)) }
-    ensures gives { GivesField H.contents (λ n. n) (known_count count) feed.old feed.new result }
-    ensures shelf { StaysOver H.contents H.is_reading H.faults feed.old feed.new
-        (IsErrOf result PartError.Failed) }
-    ensures same { IfOk result (λ n. n ≡ count) }
-{
-    let at = feed.at();
-    let size = feed.u64()?;
-    if size != count {
-        return Err(PartError::bad(at, Reason::VectorSize));
-    }
-    Ok(size)
 }

@@ -3,7 +3,7 @@ ghost use Rattle.any_index.specs.Kinds.{inner_value};
 ghost use Rattle.file_parts.specs.Fields.{any_signed, repeated};
 ghost use Rattle.file_parts.specs.Feeding.{GivesField, StaysOver, shelf_of};
 ghost use Rattle.file_parts.specs.Heads.{view_head};
-ghost use Rattle.index_files.specs.FileFormat.{body, file, id_count_field, index};
+ghost use Rattle.index_files.specs.FileFormat.{body, file, index};
 ghost use Rattle.index_files.specs.FileFormat.{map_body, map_start, outer_ids};
 ghost use Rattle.index_files.specs.Laws.{FitsRole, IsBodyRole};
 ghost use Rattle.index_files.specs.Letters.{is_index, is_plain, letters};
@@ -14,6 +14,7 @@ use crate::reading::hash::read_hash;
 use crate::reading::ivf::read_ivf;
 use crate::reading::multi::read_multi;
 use crate::reading::start::{Wanted, read_start};
+use crate::reading::wanted::read_wanted;
 use crate::{KindName, Start};
 use any_index::{AnyIndex, InnerIndex};
 use bcodes::MapName;
@@ -185,7 +186,7 @@ fn read_inner<H: Shelf>(
 }
 
 // The outer ids, with their count.
-#[tactic(auto, using(file_parts::proofs::Reading::run_then))]
+#[tactic(auto, unfolding(crate::specs::Counts::known_count), using(file_parts::proofs::Reading::run_then))]
 fn read_outer_ids<H: Shelf>(
     alloc: Global,
     feed: &mut Feed<'_, H>,
@@ -198,25 +199,9 @@ fn read_outer_ids<H: Shelf>(
         (IsErrOf result PartError.Failed) }
     ensures count { IfOk result (λ ids. length ids.items ≡ count) }
 {
-    read_id_count(feed, count)?;
+    read_wanted(feed, count, Reason::VectorSize)?;
     let ids = read_ids(alloc, feed, count)?;
     Ok(ids)
-}
-
-#[tactic(auto, unfolding(crate::specs::FileFormat::id_count_field), using(file_parts::proofs::FeedLemmas::checked_gives))]
-fn read_id_count<H: Shelf>(feed: &mut Feed<'_, H>, count: u64) -> Result<u64, PartError>
-    requires { IsTrue (H.is_reading (shelf_of feed.old)) }
-    ensures gives { GivesField H.contents (λ n. n) (id_count_field count)
-        feed.old feed.new result }
-    ensures shelf { StaysOver H.contents H.is_reading H.faults feed.old feed.new
-        (IsErrOf result PartError.Failed) }
-{
-    let at = feed.at();
-    let size = feed.u64()?;
-    if size != count {
-        return Err(PartError::bad(at, Reason::VectorSize));
-    }
-    Ok(size)
 }
 
 fn read_ids<H: Shelf>(

@@ -10,10 +10,10 @@ ghost use Rattle.index_files.specs.IvfSteps.{ivf_lists};
 ghost use Rattle.index_files.specs.Laws.{FitsRole, IsBodyRole};
 
 mod direct;
-mod fields;
 mod ids;
 mod lists;
 mod quantizer;
+mod room;
 mod rows;
 mod sizes;
 

@@ -13,8 +13,8 @@ ghost use Rattle.index_files.specs.HashReading.{behind_rows, key_size, run_bytes
 
 use crate::reading::hash::bucket::Bucket;
 use crate::reading::hash::packing::Packing;
-use crate::reading::hash::read_known_count;
 use crate::reading::hash::run::next_bucket;
+use crate::reading::wanted::read_wanted;
 use bcodes::{Addable, BinaryIndex, Codes, Dim, Meter, Plain, chunk};
 use bit_strings::BitReader;
 use file_parts::{Feed, PartError, Reason, Role};
@@ -77,10 +77,10 @@ fn read_bucket<H: Shelf>(
     ensures gains { OnOk result (GainsRows role total bucket.size hash.old hash.new) }
 {
     let dim = hash.dim();
-    read_known_count(feed, bucket.size)?;
+    read_wanted(feed, bucket.size, Reason::VectorSize)?;
     let ids = read_ids(alloc, feed, role, total, bucket.size)?;
     let bytes = bucket.size * dim.bytes() as u64;
-    read_known_count(feed, bytes)?;
+    read_wanted(feed, bytes, Reason::VectorSize)?;
     read_codes(alloc, feed, bucket, &ids, hash)?;
     Ok(())
 }

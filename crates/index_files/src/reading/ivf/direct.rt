@@ -4,7 +4,8 @@ ghost use Rattle.file_parts.specs.Fields.{any_number, number, repeated};
 ghost use Rattle.index_files.specs.IvfFormat.{direct_map, direct_type_checks, some_entries};
 ghost use Rattle.index_files.specs.IvfSteps.{HasEntries};
 
-use crate::reading::ivf::fields::{make_room, read_wanted};
+use crate::reading::ivf::room::make_room;
+use crate::reading::wanted::read_wanted;
 use file_parts::{Feed, PartError, Reason};
 use outside::Shelf;
 use std::alloc::Global;

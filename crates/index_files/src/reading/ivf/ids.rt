@@ -9,7 +9,7 @@ ghost use Rattle.index_files.specs.IvfFormat.{is_misplaced, list_id, list_id_che
 ghost use Rattle.index_files.specs.IvfSteps.{ArePassed, HasEntries};
 ghost use Rattle.ivf_index.specs.Direct.{entry};
 
-use crate::reading::ivf::fields::make_room;
+use crate::reading::ivf::room::make_room;
 use file_parts::{Feed, PartError, Reason, Role};
 use outside::Shelf;
 use std::alloc::Global;

@@ -10,10 +10,10 @@ ghost use Rattle.index_files.specs.Laws.{FitsRole, IsBodyRole};
 
 use crate::reading::flat::dim_of;
 use crate::reading::ivf::direct::read_direct;
-use crate::reading::ivf::fields::read_wanted;
 use crate::reading::ivf::ids::IdChecks;
 use crate::reading::ivf::rows::read_rows;
 use crate::reading::ivf::sizes::read_sizes;
+use crate::reading::wanted::read_wanted;
 use bcodes::Plain;
 use file_parts::{Feed, Head, Letters, PartError, Reason, Role};
 use ivf_index::Ivf;

@@ -10,7 +10,8 @@ ghost use Rattle.index_files.specs.IvfFormat.{list_sizes, rows_in, sparse_count_
 ghost use Rattle.index_files.specs.IvfFormat.{sparse_size_checks, sparse_sizes};
 ghost use Rattle.index_files.specs.IvfSteps.{AreFilled, filled_sizes, list_pair};
 
-use crate::reading::ivf::fields::{make_room, read_wanted};
+use crate::reading::ivf::room::make_room;
+use crate::reading::wanted::read_wanted;
 use file_parts::{Feed, Letters, PartError, Reason};
 use outside::Shelf;
 use std::alloc::{AllocError, Global};

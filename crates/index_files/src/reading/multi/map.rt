@@ -12,6 +12,7 @@ ghost use Rattle.index_files.specs.MultiFormat.{map_fields};
 use crate::bit_widths::position_width;
 use crate::reading::multi::keyed::Keyed;
 use crate::reading::multi::map_run::check_run;
+use crate::reading::wanted::read_wanted;
 use bcodes::{BinaryIndex, Plain};
 use file_parts::{Feed, PartError, Reason};
 use flat_index::Flat;
@@ -129,12 +130,8 @@ fn read_run_size<H: Shelf>(
         (IsErrOf result PartError.Failed) }
     ensures size { IfOk result (λ n. n ≡ (map_bits count b width buckets + 7) / 8) }
 {
-    let at = feed.at();
-    let size = feed.u64()?;
-    if size != run_size(count, b, width, buckets) {
-        return Err(PartError::bad(at, Reason::VectorSize));
-    }
-    Ok(size)
+    let size = run_size(count, b, width, buckets);
+    read_wanted(feed, size, Reason::VectorSize)
 }
 
 // The bytes of the packed run of a map.

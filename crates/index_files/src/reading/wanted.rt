@@ -1,13 +1,9 @@
-ghost use Rattle.std.specs.Prelude.{◌≡◌, ◌+◌, ◌<◌, ◌≤◌, IfOk, IsErrOf, IsTrue};
+ghost use Rattle.std.specs.Prelude.{◌≡◌, IfOk, IsErrOf, IsTrue};
 ghost use Rattle.file_parts.specs.Feeding.{GivesField, StaysOver, shelf_of};
 ghost use Rattle.file_parts.specs.Fields.{must_be, number};
 
 use file_parts::{Feed, PartError, Reason};
 use outside::Shelf;
-use std::alloc::AllocError;
-
-// For how many more elements of eight bytes room is made at a time.
-const ROOM: usize = 8_192;
 
 /// A number of eight bytes, of which one passes.
 #[tactic(auto, using(file_parts::proofs::FeedLemmas::checked_gives))]
@@ -21,6 +17,7 @@ pub fn read_wanted<H: Shelf>(
         feed.old feed.new result }
     ensures shelf { StaysOver H.contents H.is_reading H.faults feed.old feed.new
         (IsErrOf result PartError.Failed) }
+    ensures same { IfOk result (λ n. n ≡ wanted) }
 {
     let at = feed.at();
     let n = feed.u64()?;
@@ -28,15 +25,4 @@ pub fn read_wanted<H: Shelf>(
         return Err(PartError::bad(at, reason));
     }
     Ok(n)
-}
-
-/// Makes room for an element that was read. It grows by steps of one size, so that a vector never
-/// has much more room than for what was read.
-pub fn make_room<T>(elements: &mut Vec<T>) -> Result<(), AllocError>
-    ensures { elements.new.items ≡ elements.old.items }
-{
-    if elements.len() == elements.capacity() {
-        elements.reserve_exact(ROOM)?;
-    }
-    Ok(())
 }
