@@ -1,47 +1,39 @@
 -- What the fields and the loops of the reader of a Hash give.
-use Rattle.std.proofs.Common.{◌≡◌, inl, inr, ℕ, zero, suc, ◌+◌, ◌-◌, ◌*◌, ◌/◌, ◌^◌, ◌<◌, ◌≤◌, ℤ}
-use Rattle.std.proofs.Common.{max, Bool, true, false, eqb, ltb, not, ◌&&◌, ◌||◌, List, [], ◌∷◌, ◌++◌, length, map}
-use Rattle.std.proofs.Common.{take, drop, cond, All, Option, Some, None, Result, Ok, Err, refl, sym, ap, subst, ◌∙◌}
-use Rattle.std.proofs.Common.{append_assoc, arith, length-append, length-drop}
-use Rattle.std.specs.Prelude.{is_some, sum, fold}
-use Rattle.std.specs.Int.{w64, leading_zeros}
-use Rattle.std.specs.List.{list_any, range_with_len, zip}
-use Rattle.std.specs.Option.{option_map}
-use Rattle.std.proofs.lemmas.Bool.{cases_Bool, eqb-true, eqb-false, eq-eqb, ne_eqb, ltb-true, ltb-false}
-use Rattle.std.proofs.lemmas.Nat.{leading_length, mul-le}
-use Rattle.std.proofs.Math.Nat.{mul-le-mul_right, two-pow-succ, pow-le-pow_right}
+use Rattle.std.proofs.Common.{◌≡◌, inl, inr, ℕ, ◌+◌, ◌-◌, ◌*◌, ◌/◌, ◌^◌, ◌<◌, ◌≤◌, ℤ}
+use Rattle.std.proofs.Common.{true, false, ltb, ◌&&◌, List, [], ◌∷◌, ◌++◌, length, map}
+use Rattle.std.proofs.Common.{take, drop, All, Option, Some, None, Result, Ok, Err, refl, sym, ap, subst, ◌∙◌}
+use Rattle.std.proofs.Common.{append_assoc, arith, length-append}
+use Rattle.std.specs.Prelude.{sum}
+use Rattle.std.proofs.lemmas.Bool.{cases_Bool, eqb-true}
+use Rattle.std.proofs.lemmas.Nat.{mul-le}
+use Rattle.std.proofs.Math.Nat.{mul-le-mul_right}
 use Rattle.std.proofs.lemmas.List.{append-nil, length-map, map-append}
-use Rattle.std.proofs.lemmas.List.Sums.{sum_by-cons}
 use Rattle.std.proofs.lemmas.List.Elements.{All-nil, All-cons, All-head, All-tail, All-append}
 use Rattle.bcodes.specs.Answers.{after_add, paired}
-use Rattle.bcodes.specs.Bits.{key}
 use Rattle.bcodes.specs.Ranges.{load_limit}
 use Rattle.bcodes.specs.Value.{Row, HashValue, Hash, Bare, IsPlace, load_of, weight}
 use Rattle.file_parts.specs.declared.file_fault.FileFault.{FileFault}
 use Rattle.file_parts.specs.declared.head.Head.{Head}
 use Rattle.file_parts.specs.declared.part_error.PartError.{PartError}
 use Rattle.file_parts.specs.declared.part_error.PartError.TheVariants as part
-use Rattle.file_parts.specs.declared.reason.Reason.TheVariants as reason
 use Rattle.file_parts.specs.declared.role.Role.{Role}
 use Rattle.file_parts.specs.declared.role.Role.TheVariants.{Outermost, Within, Quantizer}
 use Rattle.outside.specs.Calls.{KeepsFiles}
 use Rattle.outside.specs.Contents.{Contents}
 use Rattle.file_parts.specs.Feeding.{GivesError}
 use Rattle.file_parts.specs.Fields.{any_signed, each, repeated, rows_beside, signed, signed_of, HeadValue}
-use Rattle.file_parts.specs.Format.{Check, first_refusal, Format, done, field, on_pass, after, Place, run, ◌>>=◌}
+use Rattle.file_parts.specs.Format.{Check, first_refusal, Format, done, on_pass, after, Place, run, ◌>>=◌}
 use Rattle.file_parts.specs.Heads.{IsHead}
 use Rattle.file_parts.proofs.Reading.{◌>>>◌, run_then, okay, ok-is}
 use Rattle.file_parts.proofs.Repeats.{with_front}
-use Rattle.index_files.specs.Canon.{bit_length}
 use Rattle.index_files.specs.Counts.{known_count}
 use Rattle.index_files.specs.FlatFormat.{is_inside, is_no_place}
 use Rattle.index_files.specs.Groups.{concat}
 use Rattle.index_files.specs.HashFormat.{KeySize, all_rows, bucket_code, bucket_id, bucket_rows, hash_rows}
 use Rattle.index_files.specs.HashFormat.{b_field, hash_buckets, hash_rest, nflip_field, rows_under}
-use Rattle.index_files.specs.HashReading.{behind_rows, Gains, GainsRows, PassIds}
+use Rattle.index_files.specs.HashReading.{behind_rows, Gains, GainsRows, GatheredRows, joined}
 use Rattle.index_files.specs.Laws.{FitsRole, IsBodyRole}
 use Rattle.index_files.proofs.IvfFacts.{place-found, below-place}
-use Rattle.index_files.proofs.Width.{width-only}
 
 -- ---- numbers
 
@@ -314,13 +306,6 @@ rows_split (c ∷ cs) (d ∷ ds) [] = refl
 rows_split (c ∷ cs) ds (z ∷ ids) =
     ap (λ (rs : List Row). record { label = z; code = c } ∷ rs) (rows_split cs ds ids)
 
-pub rows_paired : (ds : List (List ℕ)) (ids : List ℤ) → length ds ≤ length ids
-    → paired (take (length ds) ids) ds ≡ hash_rows ds ids
-rows_paired [] ids le = refl
-rows_paired (d ∷ ds) [] le = absurd (omega (arith, le))
-rows_paired (d ∷ ds) (z ∷ ids) le =
-    ap (λ (rs : List Row). record { label = z; code = d } ∷ rs) (rows_paired ds ids (omega (arith, le)))
-
 pub rows_labels : (cs : List (List ℕ)) (ids : List ℤ) → length cs ≡ length ids
     → map (λ (row : Row). row.label) (hash_rows cs ids) ≡ ids
 rows_labels [] [] e = refl
@@ -460,23 +445,26 @@ codes_few v u cs ids e =
     let rows : length u.rows ≡ length (v.rows ++ hash_rows cs ids) = ap (λ (u : HashValue). length u.rows) e in
     omega (arith, rows, length-append v.rows (hash_rows cs ids), length-hash_rows cs ids)
 
-pub codes_joined : (v u w : HashValue) (cs ds : List (List ℕ)) (ids : List ℤ) (k n : ℕ) → length cs ≡ k
-    → length ds ≡ n → k + n ≤ length ids → u ≡ with_codes v cs ids
-    → w ≡ record u { rows = u.rows ++ paired (take (k + n - k) (drop k ids)) ds }
-    → w ≡ with_codes v (cs ++ ds) ids
-codes_joined v u w cs ds ids k n e f le first then =
-    let count : k + n - k ≡ length ds = omega (arith, f) in
-    let many : length ds ≤ length (drop k ids) = omega (arith, f, le, length-drop k ids) in
-    let pair : paired (take (k + n - k) (drop k ids)) ds ≡ hash_rows ds (drop k ids) =
-    ap (λ (m : ℕ). paired (take m (drop k ids)) ds) count ∙ rows_paired ds (drop k ids) many in
-    let place : hash_rows ds (drop k ids) ≡ hash_rows ds (drop (length cs) ids) =
-    ap (λ (m : ℕ). hash_rows ds (drop m ids)) (sym e) in
+-- one row more was gathered
+pub row_joined : (h : HashValue) (g k : GatheredRows) (r : Row) → k.rows ≡ g.rows ++ r ∷ []
+    → joined k h ≡ record (joined g h) { rows = (joined g h).rows ++ r ∷ [] }
+row_joined h g k r e = ap (λ (rows : List Row). record h { rows = rows })
+    (ap (λ (rows : List Row). h.rows ++ rows) e ∙ sym (append_assoc h.rows g.rows (r ∷ [])))
+
+-- one code more stands under its id
+pub code_joined : (v u w : HashValue) (cs : List (List ℕ)) (d : List ℕ) (ids : List ℤ) (k : ℕ) (z : ℤ)
+    → length cs ≡ k → drop k ids ≡ z ∷ drop (k + 1) ids → u ≡ with_codes v cs ids
+    → w ≡ record u { rows = u.rows ++ record { label = z; code = d } ∷ [] }
+    → w ≡ with_codes v (cs ++ d ∷ []) ids
+code_joined v u w cs d ids k z e at first then =
+    let row : record { label = z; code = d } ∷ [] ≡ hash_rows (d ∷ []) (drop (length cs) ids) =
+    ap (hash_rows (d ∷ [])) (sym at) ∙ ap (λ (m : ℕ). hash_rows (d ∷ []) (drop m ids)) (sym e) in
     then
-    ∙ ap (λ (rows : List Row). record u { rows = u.rows ++ rows }) (pair ∙ place)
-    ∙ ap (λ (u : HashValue). record u { rows = u.rows ++ hash_rows ds (drop (length cs) ids) }) first
+    ∙ ap (λ (rows : List Row). record u { rows = u.rows ++ rows }) row
+    ∙ ap (λ (u : HashValue). record u { rows = u.rows ++ hash_rows (d ∷ []) (drop (length cs) ids) }) first
     ∙ ap (λ (rows : List Row). record v { rows = rows })
-    (append_assoc v.rows (hash_rows cs ids) (hash_rows ds (drop (length cs) ids))
-    ∙ ap (λ (rows : List Row). v.rows ++ rows) (sym (rows_split cs ds ids)))
+    (append_assoc v.rows (hash_rows cs ids) (hash_rows (d ∷ []) (drop (length cs) ids))
+    ∙ ap (λ (rows : List Row). v.rows ++ rows) (sym (rows_split cs (d ∷ []) ids)))
 
 pub codes_gained : (v w : HashValue) (cs : List (List ℕ)) (ids : List ℤ) → w ≡ with_codes v cs ids
     → length cs ≡ length ids → Gains ids v w

@@ -1,7 +1,6 @@
 -- What the reader of a Hash says of its parts.
 use Rattle.std.specs.Prelude.{◌≡◌, ◌≤◌, ◌<◌, ℕ, ◌+◌, ◌*◌, ◌/◌, ◌^◌, ℤ, false, ◌&&◌, List, ◌++◌, length, map, Option, Some, None}
 use Rattle.std.specs.List.{All}
-use Rattle.bcodes.specs.Ranges.{load_limit}
 use Rattle.bcodes.specs.Value.{Row, HashValue}
 use Rattle.file_parts.specs.declared.reason.Reason.{Reason}
 use Rattle.file_parts.specs.declared.role.Role.{Role}
@@ -51,3 +50,13 @@ pub record GainsRows (role : Role) (total n : ℕ) (old new : HashValue) : Type 
   pub count : length ids ≡ n
   pub pass : PassIds role total ids
   pub gains : Gains ids old new
+
+-- rows for a Hash of codes of so many bits, and the code that was read last
+pub record GatheredRows : Type 0 where
+  pub dim : ℕ
+  pub code : List ℕ
+  pub rows : List Row
+
+-- a Hash with gathered rows behind those that it has
+abbrev pub joined : GatheredRows → HashValue → HashValue
+joined gathered hash = record hash { rows = hash.rows ++ gathered.rows }

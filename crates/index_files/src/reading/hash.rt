@@ -1,4 +1,5 @@
 mod bucket;
+mod gathered;
 mod packing;
 mod rows;
 mod run;

@@ -1,117 +1,163 @@
-use Rattle.std.proofs.Common.{◌≡◌, ℕ, ◌+◌, ◌/◌, ◌≤◌, List, [], ◌++◌, length, refl, sym, ap}
-use Rattle.std.proofs.Common.{subst, ◌∙◌, arith, length-append, rules}
-use Rattle.std.proofs.lemmas.List.{append-nil}
+use Rattle.std.proofs.Common.{rules, ◌≡◌, ℕ, ◌+◌, ◌*◌, ◌/◌, ◌<◌, ◌++◌, [], ◌∷◌, length, drop, refl, sym, ap, subst}
+use Rattle.std.proofs.Common.{◌≤◌, ◌∙◌, arith, length-append, List, ℤ, pos, FitsSigned, to_z, of_z, w64}
+use Rattle.std.specs.Prelude.{slice_index_or}
+use Rattle.std.proofs.lemmas.List.{append-nil, drop_more}
+use Rattle.std.proofs.lemmas.Int.{to_z-of_z}
 use Rattle.std.proofs.lemmas.Result.{err_from_is_err_and}
-use Rattle.bcodes.specs.Value.{Row}
 use Rattle.file_parts.specs.Format.{run}
 use Rattle.file_parts.specs.Fields.{repeated}
 use Rattle.file_parts.specs.Feeding.{GivesError, place}
-use Rattle.file_parts.proofs.Repeats.{is_done}
-use Rattle.index_files.specs.HashFormat.{bucket_code}
-use Rattle.index_files.specs.HashReading.{key_size}
-use Rattle.index_files.proofs.HashReading.{added_load, codes_fail, codes_few, codes_gained, codes_joined, codes_read}
-use Rattle.index_files.proofs.HashReading.{hash_added, keeps_same, none_read}
-use Rattle.index_files.proofs.LoadLemmas.{piece_read, piece_fails, keeps_then, told_kept}
+use Rattle.file_parts.proofs.Repeats.{ends, goes_on, is_done}
+use Rattle.bcodes.specs.Ranges.{load_limit}
+use Rattle.bcodes.specs.Value.{Row, weight}
+use Rattle.index_files.specs.HashFormat.{bucket_code, hash_rows}
+use Rattle.index_files.specs.HashReading.{joined, key_size}
+use Rattle.index_files.proofs.HashReading.{code_joined, codes_fail, codes_few, codes_gained, codes_read}
+use Rattle.index_files.proofs.HashReading.{keeps_same, none_read, row_joined, weigh_fewer, with_codes}
+use Rattle.index_files.proofs.LoadLemmas.{keeps_then, told_kept}
 use Rattle.index_files.proofs.reading.hash.rows.read_codes.Goals as goal
 
-pub loop-done-init : goal.loop-done-init
-loop-done-init g c = record {
-  within = omega arith;
-  codes = (
-    [],
-    refl,
-    ap (λ (rows : List Row). record c.args.hash.now { rows = rows }) (sym (append-nil c.args.hash.now.rows)),
-    λ told. none_read (bucket_code (c.args.hash.now.dim / 8) c.args.hash.now.b c.args.bucket.key)
-        (length c.args.ids.now) (place g.H.Shelf.contents c.args.feed.now),
-  );
-  same_shelf = refl;
-  files = keeps_same _;
-  reading = refl;
-  count_stays = refl;
-}
-
-pub add_all-requires-clause-load : goal.add_all-requires-clause-load
-add_all-requires-clause-load g c =
-    let inv = c.loop-done.invariant in
+pub loop-i-init : goal.loop-i-init
+loop-i-init g c =
     let old = c.args.hash.now in
-    let few = codes_few old c.loop-done.hash inv.codes.0 c.args.ids.now inv.codes.2 in
-    added_load c.loop-done.hash old.dim (length old.rows + c.args.bucket.size) _ c.in_ok-codes.codes.codes
-    (ap (λ v. v.dim) inv.codes.2)
+    let all = joined c.args.gathered.now old in
+    record {
+      within = omega arith;
+      dim = c.requires.dim;
+      codes = (
+        [],
+        refl,
+        ap (λ (rows : List Row). record old { rows = rows }) (sym (append-nil all.rows)),
+        λ told. none_read (bucket_code (old.dim / 8) old.b c.args.bucket.key) (length c.args.ids.now)
+            (place g.H.Shelf.contents c.args.feed.now),
+      );
+      same_shelf = refl;
+      files = keeps_same _;
+      reading = refl;
+      count_stays = refl;
+    }
+
+pub put_if_full-requires-clause-load : goal.put_if_full-requires-clause-load
+put_if_full-requires-clause-load g c =
+    let inv = c.loop-i.invariant in
+    let old = c.args.hash.now in
+    let gathered = c.args.gathered.now in
+    let now = c.loop-i.hash in
+    let few = codes_few (joined gathered old) (joined c.loop-i.gathered now) inv.codes.0 c.args.ids.now inv.codes.2 in
+    let same : old.dim ≡ now.dim = sym (ap (λ v. v.dim) inv.codes.2) in
+    weigh_fewer now.dim (length now.rows + length c.loop-i.gathered.rows)
+    (length old.rows + length gathered.rows + c.args.bucket.size)
     (omega (
       arith,
       few,
+      length-append old.rows gathered.rows,
+      length-append now.rows c.loop-i.gathered.rows,
       inv.codes.1,
-      c.in_ok-codes.ensures.count,
-      c.loop-done-test.true,
-      c.min-n.ensures,
+      c.loop-i-test.true,
       c.requires.count,
-    )) c.requires.load
+    ))
+    (subst (λ d. weight d 1 (length old.rows + length gathered.rows + c.args.bucket.size) 0 ≤ load_limit) same
+    c.requires.load)
 
-pub loop-done-preserved : goal.loop-done-preserved
-loop-done-preserved g c =
-    let inv = c.loop-done.invariant in
-    let n : ℕ = c.min-n.result in
-    let k : ℕ = c.loop-done.done in
+pub read_code-requires-clause-b_within : goal.read_code-requires-clause-b_within
+read_code-requires-clause-b_within g c =
+    let inv = c.loop-i.invariant in
+    let d : ℕ = c.args.hash.now.dim in
+    let b : ℕ = c.b-b.result in
+    let legal = c.dim-dim.ensures.legal in
+    let then_dim : c.put_if_full.new.self.dim ≡ d =
+    c.in_ok-put_if_full.ensures.dim ∙ inv.dim ∙ ap (λ v. v.dim) inv.codes.2 in
+    let whole : 8 * (d / 8) ≡ d = omega (arith, legal.dim.whole_bytes) in
+    let within : b ≤ 8 * (d / 8) = omega (arith, whole, legal.b_within, c.b-b.ensures) in
+    subst (λ (d : ℕ). b ≤ 8 * (d / 8)) (sym then_dim) within
+
+pub loop-i-preserved : goal.loop-i-preserved
+loop-i-preserved g c =
+    let inv = c.loop-i.invariant in
     let old = c.args.hash.now in
+    let start = joined c.args.gathered.now old in
+    let hash = c.put_if_full.new.hash in
+    let then = c.put_if_full.new.self in
+    let new = c.push.new.self in
     let ids = c.args.ids.now in
     let cs = inv.codes.0 in
-    let ds = c.in_ok-codes.codes.codes in
-    let less : k + n ≤ length ids = omega (arith, c.loop-done-test.true, c.min-n.ensures) in
+    let i : ℕ = c.loop-i.i in
+    let z : ℤ = slice_index_or c.args.ids.now c.loop-i.i (pos 0) in
+    let code : List ℕ = c.read_code.new.self.code in
+    let row : Row = record { label = z; code = code } in
+    let lt : i < length ids = c.loop-i-test.true in
     let f = bucket_code (old.dim / 8) old.b c.args.bucket.key in
+    let whole = run (repeated (length ids) f) (place g.H.Shelf.contents c.args.feed.now) in
+    let here : drop i ids ≡ z ∷ drop (i + 1) ids = drop_more ids i (pos 0) lt in
+    let fits : FitsSigned w64 z = search rules in
+    let kept : to_z w64 (of_z w64 z) ≡ z = to_z-of_z w64 z fits in
+    let rows : new.rows ≡ then.rows ++ row ∷ [] = ap (λ v. v.rows) c.in_ok-push.ensures
+    ∙ ap (λ (y : ℤ). c.read_code.new.self.rows ++ record { label = y; code = code } ∷ []) kept
+    ∙ ap (λ (rows : List Row). rows ++ row ∷ []) (ap (λ v. v.rows) c.in_ok-read_code.ensures.rest) in
+    let same : joined then hash ≡ with_codes start cs ids = c.in_ok-put_if_full.ensures.same ∙ inv.codes.2 in
+    let dim : hash.dim ≡ old.dim = ap (λ v. v.dim) same in
+    let then_dim : then.dim ≡ old.dim =
+    c.in_ok-put_if_full.ensures.dim ∙ inv.dim ∙ ap (λ v. v.dim) inv.codes.2 in
+    let new_dim : new.dim ≡ then.dim =
+    ap (λ v. v.dim) c.in_ok-push.ensures ∙ ap (λ v. v.dim) c.in_ok-read_code.ensures.rest in
     record {
-      within = less;
+      within = omega (arith, lt);
+      dim = new_dim ∙ then_dim ∙ sym dim;
       codes = (
-        cs ++ ds,
-        omega (arith, length-append cs ds, inv.codes.1, c.in_ok-codes.ensures.count),
-        codes_joined old c.loop-done.hash c.add_all.new.self cs ds ids k n inv.codes.1 c.in_ok-codes.ensures.count
-            less inv.codes.2 (hash_added c.loop-done.hash c.add_all.new.self _ ds c.in_ok-add_all.ensures.ok),
-        λ told. piece_read f cs ds (length ids) k n
-            (place g.H.Shelf.contents c.loop-done.feed) (place g.H.Shelf.contents c.read_piece.new.feed)
-            (run (repeated (length ids) f) (place g.H.Shelf.contents c.args.feed.now)) less
-            (rw (sym c.dim-dim.ensures.value, sym c.b-b.ensures)
-            (c.in_ok-codes.ensures.gives (told_kept _ _ inv.files told))) (inv.codes.3 told),
+        cs ++ code ∷ [],
+        length-append cs (code ∷ []) ∙ ap (λ (n : ℕ). n + 1) inv.codes.1,
+        code_joined start (joined then hash) (joined new hash) cs code ids i z inv.codes.1 here same
+            (row_joined hash then new row rows),
+        λ told. goes_on f cs (length ids) i (place g.H.Shelf.contents c.loop-i.feed)
+            (place g.H.Shelf.contents c.read_code.new.feed) code whole lt
+            (rw (then_dim, c.b-b.ensures) at (c.in_ok-read_code.ensures.gives (told_kept _ _ inv.files told)))
+            (inv.codes.3 told),
       );
-      same_shelf = c.in_ok-codes.ensures.shelf.same_shelf ∙ inv.same_shelf;
-      files = keeps_then _ _ _ inv.files c.in_ok-codes.ensures.shelf.files;
-      reading = c.in_ok-codes.ensures.shelf.reading ∙ inv.reading;
+      same_shelf = c.in_ok-read_code.ensures.shelf.same_shelf ∙ inv.same_shelf;
+      files = keeps_then _ _ _ inv.files c.in_ok-read_code.ensures.shelf.files;
+      reading = c.in_ok-read_code.ensures.shelf.reading ∙ inv.reading;
       count_stays = search rules;
     }
 
-pub returns-in_err-codes-clause-gives : goal.returns-in_err-codes-clause-gives
-returns-in_err-codes-clause-gives g c = λ told. (
-    let inv = c.loop-done.invariant in
-    let n : ℕ = c.min-n.result in
-    let k : ℕ = c.loop-done.done in
+pub returns-in_err-read_code-clause-gives : goal.returns-in_err-read_code-clause-gives
+returns-in_err-read_code-clause-gives g c = λ told. (
+    let inv = c.loop-i.invariant in
     let old = c.args.hash.now in
+    let start = joined c.args.gathered.now old in
     let ids = c.args.ids.now in
-    let e = c.in_err-codes.field-0.0 in
-    let less : k + n ≤ length ids = omega (arith, c.loop-done-test.true, c.min-n.ensures) in
+    let e = c.in_err-read_code.field-0.0 in
     let f = bucket_code (old.dim / 8) old.b c.args.bucket.key in
-    let start = place g.H.Shelf.contents c.args.feed.now in
-    let r = err_from_is_err_and c.from_residual.result c.from_residual.ensures.1 in
-    let fails : GivesError e (run (repeated (length ids) f) start) =
-    piece_fails f e inv.codes.0 (length ids) k n (place g.H.Shelf.contents c.loop-done.feed)
-    (run (repeated (length ids) f) start) less
-    (rw (sym c.dim-dim.ensures.value, sym c.b-b.ensures)
-    (c.in_err-codes.ensures.gives (told_kept _ _ inv.files told))) (inv.codes.3 told) in
-    rw (r.1, r.2) (codes_fail e (old.dim / 8) old.b (key_size c.args.bucket) old.rows ids start
-    (subst (λ (m : ℕ). GivesError e (run (repeated m f) start)) c.requires.count fails)))
+    let from = place g.H.Shelf.contents c.args.feed.now in
+    let then_dim : c.put_if_full.new.self.dim ≡ old.dim =
+    c.in_ok-put_if_full.ensures.dim ∙ inv.dim ∙ ap (λ v. v.dim) inv.codes.2 in
+    let r = err_from_is_err_and c.from_residual-in_err-read_code.result c.from_residual-in_err-read_code.ensures.1 in
+    let fails : GivesError e (run (repeated (length ids) f) from) =
+    ends f e inv.codes.0 (length ids) c.loop-i.i (place g.H.Shelf.contents c.loop-i.feed)
+    (run (repeated (length ids) f) from) c.loop-i-test.true
+    (rw (then_dim, c.b-b.ensures) at (c.in_err-read_code.ensures.gives (told_kept _ _ inv.files told)))
+    (inv.codes.3 told) in
+    rw (r.1, r.2) (codes_fail e (old.dim / 8) old.b (key_size c.args.bucket) start.rows ids from
+    (subst (λ (m : ℕ). GivesError e (run (repeated m f) from)) c.requires.count fails)))
 
 pub returns-clause-gives : goal.returns-clause-gives
 returns-clause-gives g c = λ told. (
-    let inv = c.loop-done.invariant in
+    let inv = c.loop-i.invariant in
     let old = c.args.hash.now in
+    let start = joined c.args.gathered.now old in
     let ids = c.args.ids.now in
     let f = bucket_code (old.dim / 8) old.b c.args.bucket.key in
-    let start = place g.H.Shelf.contents c.args.feed.now in
-    let end = place g.H.Shelf.contents c.loop-done.feed in
-    let all = is_done f inv.codes.0 (length ids) c.loop-done.done end (run (repeated (length ids) f) start)
-    c.loop-done-test.false (inv.codes.3 told) in
-    rw inv.codes.2 (codes_read (old.dim / 8) old.b (key_size c.args.bucket) old.rows inv.codes.0 ids start end
-    (ap (λ (m : ℕ). run (repeated m f) start) (sym c.requires.count) ∙ all)))
+    let from = place g.H.Shelf.contents c.args.feed.now in
+    let end = place g.H.Shelf.contents c.loop-i.feed in
+    let all = is_done f inv.codes.0 (length ids) c.loop-i.i end (run (repeated (length ids) f) from)
+    c.loop-i-test.false (inv.codes.3 told) in
+    let rows : c.loop-i.hash.rows ++ c.loop-i.gathered.rows ≡ start.rows ++ hash_rows inv.codes.0 ids =
+    ap (λ v. v.rows) inv.codes.2 in
+    rw rows (codes_read (old.dim / 8) old.b (key_size c.args.bucket) start.rows inv.codes.0 ids from end
+    (ap (λ (m : ℕ). run (repeated m f) from) (sym c.requires.count) ∙ all)))
 
 pub returns-clause-gains : goal.returns-clause-gains
 returns-clause-gains g c =
-    let inv = c.loop-done.invariant in
-    codes_gained c.args.hash.now c.loop-done.hash inv.codes.0 c.args.ids.now inv.codes.2
-    (omega (arith, inv.codes.1, inv.within, c.loop-done-test.false))
+    let inv = c.loop-i.invariant in
+    let all : length c.args.ids.now ≤ c.loop-i.i = c.loop-i-test.false in
+    codes_gained (joined c.args.gathered.now c.args.hash.now) (joined c.loop-i.gathered c.loop-i.hash) inv.codes.0
+    c.args.ids.now inv.codes.2 (omega (arith, inv.codes.1, all, c.loop-i.invariant.within))

@@ -1,19 +1,22 @@
-use Rattle.std.proofs.Common.{◌≡◌, ℕ, ◌-◌, ◌/◌, ◌≤◌, List, ◌++◌, length}
+use Rattle.std.proofs.Common.{◌≡◌, ℕ, ◌-◌, ◌/◌, ◌≤◌, List, length}
 use Rattle.outside.specs.Calls.{KeepsFiles}
 use Rattle.file_parts.specs.Format.{run}
 use Rattle.file_parts.specs.Fields.{repeated}
 use Rattle.file_parts.specs.Feeding.{IsTold, name_of, place, shelf_of}
 use Rattle.file_parts.proofs.Repeats.{with_front}
-use Rattle.index_files.specs.HashFormat.{bucket_code, hash_rows}
+use Rattle.index_files.specs.HashFormat.{bucket_code}
+use Rattle.index_files.specs.HashReading.{joined}
+use Rattle.index_files.proofs.HashReading.{with_codes}
 use Rattle.index_files.proofs.reading.hash.rows.read_codes.Given as goal
 
-abbrev pub invariant-loop-done : goal.invariant-loop-done
-invariant-loop-done g l = record {
-  within : l.done ≤ length l.ids;
-  codes : (cs : List (List ℕ)) × (length cs ≡ l.done)
-      × (l.hash ≡ record l.fn.hash { rows = l.fn.hash.rows ++ hash_rows cs l.ids })
+abbrev pub invariant-loop-i : goal.invariant-loop-i
+invariant-loop-i g l = record {
+  within : l.i ≤ length l.ids;
+  dim : l.gathered.dim ≡ l.hash.dim;
+  codes : (cs : List (List ℕ)) × (length cs ≡ l.i)
+      × (joined l.gathered l.hash ≡ with_codes (joined l.fn.gathered l.fn.hash) cs l.ids)
       × (IsTold (g.H.Shelf.contents (shelf_of l.fn.feed))
-      → with_front cs (run (repeated (length l.ids - l.done) (bucket_code (l.fn.hash.dim / 8) l.fn.hash.b l.bucket.key))
+      → with_front cs (run (repeated (length l.ids - l.i) (bucket_code (l.fn.hash.dim / 8) l.fn.hash.b l.bucket.key))
       (place g.H.Shelf.contents l.feed))
       ≡ run (repeated (length l.ids) (bucket_code (l.fn.hash.dim / 8) l.fn.hash.b l.bucket.key))
       (place g.H.Shelf.contents l.fn.feed));
@@ -22,6 +25,3 @@ invariant-loop-done g l = record {
   reading : g.H.Shelf.is_reading (shelf_of l.feed) ≡ g.H.Shelf.is_reading (shelf_of l.fn.feed);
   count_stays : g.H.Shelf.faults (shelf_of l.feed) ≡ g.H.Shelf.faults (shelf_of l.fn.feed);
 }
-
-abbrev pub decreases-loop-done : goal.decreases-loop-done
-decreases-loop-done g l = length l.ids - l.done

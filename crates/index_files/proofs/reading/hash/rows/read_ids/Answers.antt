@@ -1,5 +1,5 @@
-use Rattle.std.proofs.Common.{rules, ◌≡◌, ℕ, ℤ, ◌+◌, ◌-◌, List, ◌∷◌, [], ◌++◌, length, Ok, ap, false}
-use Rattle.std.proofs.Common.{◌∙◌, arith, length-append, ◌&&◌}
+use Rattle.std.proofs.Common.{rules, ◌≡◌, ℕ, ℤ, ◌+◌, ◌∷◌, [], length, ap, refl, false}
+use Rattle.std.proofs.Common.{◌∙◌, length-append, ◌&&◌}
 use Rattle.std.proofs.lemmas.Result.{err_from_is_err_and}
 use Rattle.std.proofs.lemmas.List.Elements.{All-nil, All-cons, All-append}
 use Rattle.std.specs.Prelude.{FitsSigned}
@@ -11,9 +11,22 @@ use Rattle.file_parts.specs.Feeding.{place}
 use Rattle.file_parts.proofs.Repeats.{goes_on, ends}
 use Rattle.index_files.specs.FlatFormat.{is_inside, is_no_place}
 use Rattle.index_files.specs.HashFormat.{bucket_id}
-use Rattle.index_files.specs.HashReading.{PassIds}
+use Rattle.index_files.proofs.HashReading.{keeps_same, none_read}
 use Rattle.index_files.proofs.LoadLemmas.{keeps_then, told_kept}
 use Rattle.index_files.proofs.reading.hash.rows.read_ids.Goals as goal
+
+pub loop-init : goal.loop-init
+loop-init g c = record {
+  count = ap length c.clear.ensures.items;
+  pass = rw c.clear.ensures.items (All-nil (λ id. (is_inside c.args.role && is_no_place c.args.total id) ≡ false));
+  so_far = λ told. (
+      rw c.clear.ensures.items (none_read (bucket_id c.args.role c.args.total) c.args.count
+      (place g.H.Shelf.contents c.args.feed.now)));
+  same_shelf = refl;
+  files = keeps_same _;
+  reading = refl;
+  count_stays = refl;
+}
 
 pub loop-preserved : goal.loop-preserved
 loop-preserved g c =
