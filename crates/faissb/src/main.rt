@@ -1,10 +1,11 @@
-//! Reads a script from standard input, and writes the replies to standard output.
+//! Reads a script from standard input, and writes the replies to standard output. Files are those of
+//! the current folder.
 //!
 //! What the program does is [`run`], whose contract says it all. No contract reaches the rest,
-//! which is this file: that `run` is handed the words of the command line, standard input and
-//! standard output, that the program ends with the status of [`exit_code`], and that wrong words
-//! are answered with the line of [`usage`] on standard error. The script `examples/statuses`
-//! runs the program and checks these.
+//! which is this file: that `run` is handed the words of the command line, standard input, standard
+//! output and the current folder, that the program ends with the status of [`exit_code`], and that
+//! wrong words are answered with the line of [`usage`] on standard error. The script
+//! `examples/statuses` runs the program and checks these.
 #![tactic(auto)]
 
 ghost use Rattle.std.specs.Prelude.{◌≡◌};
@@ -12,7 +13,7 @@ ghost use Rattle.std.specs.Process.{exit_status};
 ghost use Rattle.faissb_core.specs.Runs.Statuses.{status_code};
 
 use faissb_core::{Status, run, usage};
-use outside::{InputSource, OutputSink, SureShelf};
+use outside::{FolderShelf, InputSource, OutputSink};
 use std::env;
 use std::io::{self, ErrorKind};
 use std::process::ExitCode;
@@ -23,11 +24,11 @@ fn words_of(rt: &HostRuntime) -> io::Result<Vec<String>> {
     Ok(words)
 }
 
-// The run over standard input and standard output.
+// The run over standard input, standard output and the current folder.
 fn run_words(rt: &HostRuntime, words: &[String]) -> Status {
     let mut script = InputSource::new(rt.reader());
     let mut out = OutputSink::new(std::io::writer(rt));
-    let mut shelf = SureShelf::new(rt.alloc());
+    let mut shelf = FolderShelf::new(rt, rt.alloc());
     run(rt.alloc(), words, &mut script, &mut out, &mut shelf)
 }
 

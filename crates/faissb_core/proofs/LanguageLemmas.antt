@@ -3,3 +3,4 @@ pub mod NumberLemmas
 pub mod IdLemmas
 pub mod GrammarLemmas
 pub mod ReadLemmas
+pub mod NameLemmas

@@ -6,3 +6,6 @@ pub mod Reached
 pub mod Feeding
 pub mod Failure
 pub mod ScriptRun
+pub mod CheckRun
+pub mod Words
+pub mod Promises

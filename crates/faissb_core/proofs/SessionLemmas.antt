@@ -13,3 +13,5 @@ pub mod RoomLemmas
 pub mod RemoveLemmas
 pub mod GrownLemmas
 pub mod ShardLemmas
+pub mod FileLemmas
+pub mod AppliedLemmas

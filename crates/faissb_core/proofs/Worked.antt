@@ -1,5 +1,5 @@
 -- Worked scripts and what they are answered, as the definitions compute them, whatever the code does.
-use Rattle.std.specs.Prelude.{◌≡◌, List, ℕ, codes}
+use Rattle.std.specs.Prelude.{◌≡◌, List, [], ◌∷◌, ℕ, codes, Some, None}
 use Rattle.std.proofs.Common.{refl}
 use Rattle.std.specs.Fmt.{digits}
 use Rattle.hex.specs.Hex.{decode_pairs, encode_with}
@@ -15,6 +15,8 @@ use Rattle.outside.specs.Contents.{no_contents}
 use Rattle.faissb_core.specs.Language.Lines.{line_of}
 use Rattle.faissb_core.specs.Machine.Step.{step}
 use Rattle.faissb_core.specs.Machine.Script.{script_text}
+use Rattle.faissb_core.specs.Machine.Sample.{mix, sample_code, codes_from, sample_query, sample_queries, sample_text}
+use Rattle.faissb_core.specs.Runs.Words.{Script, Sample, run_of}
 
 -- the script, from no files on, is answered with this text
 abbrev Answers : List ℕ → List ℕ → Type 0
@@ -271,3 +273,43 @@ shown_hash = refl
 shown_multi_hash : Answers (codes "new 16 BHash2x8\nadd 0100 0101\nshow\n") (codes "ok\nadded 2 total 2\nindex BHash2x8\nd 16\ntotal 2\ntrained yes\nnhash 2\nb 8\nnflip 0\nbound 2\nbuckets 1 2\n")
 unfolding digits step line_of read_spec hits best within scan_best looked after_add after_centroids differing key map_key map_keys is_above grown removed joined joined_hits joined_best joined_within decode_pairs encode_with
 shown_multi_hash = refl
+
+-- ---- samples
+
+sample_of_one : sample_text 1 1 ≡ codes "sample codes 1 queries 64 hits 64 looked 64 exact 64\n"
+unfolding digits hits within looked differing is_above mix sample_code codes_from sample_query sample_queries sample_text
+sample_of_one = refl
+
+sample_of_twenty : sample_text 7 20 ≡ codes "sample codes 20 queries 64 hits 64 looked 64 exact 64\n"
+unfolding digits hits within looked differing is_above mix sample_code codes_from sample_query sample_queries sample_text
+sample_of_twenty = refl
+
+sample_of_64 : sample_text 9223372036854775807 64 ≡ codes "sample codes 64 queries 64 hits 64 looked 67 exact 64\n"
+unfolding digits hits within looked differing is_above mix sample_code codes_from sample_query sample_queries sample_text
+sample_of_64 = refl
+
+-- ---- words of the command line
+
+script_alone : run_of (codes "script" ∷ []) ≡ Some Script
+script_alone = refl
+
+script_and_more : run_of (codes "script" ∷ codes "x" ∷ []) ≡ None
+script_and_more = refl
+
+no_words : run_of [] ≡ None
+no_words = refl
+
+sample_words : run_of (codes "sample" ∷ codes "1" ∷ codes "100000" ∷ []) ≡ Some (Sample 1 100000)
+sample_words = refl
+
+sample_of_none : run_of (codes "sample" ∷ codes "1" ∷ codes "0" ∷ []) ≡ None
+sample_of_none = refl
+
+sample_too_many : run_of (codes "sample" ∷ codes "1" ∷ codes "1000001" ∷ []) ≡ None
+sample_too_many = refl
+
+sample_leading_zero : run_of (codes "sample" ∷ codes "01" ∷ codes "5" ∷ []) ≡ None
+sample_leading_zero = refl
+
+sample_great_seed : run_of (codes "sample" ∷ codes "9223372036854775808" ∷ codes "5" ∷ []) ≡ None
+sample_great_seed = refl

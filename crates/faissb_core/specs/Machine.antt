@@ -5,8 +5,10 @@ pub mod Adding
 pub mod Settings
 pub mod Queries
 pub mod Removing
+pub mod Files
 pub mod Shards
 pub mod Step
 pub mod Script
+pub mod Sample
 pub mod Legal
 pub mod Marked

@@ -8,3 +8,5 @@ pub mod LineFailure
 pub mod InputEnd
 pub mod Outcomes
 pub mod ScriptRun
+pub mod CheckRun
+pub mod SampleRun

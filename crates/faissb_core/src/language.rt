@@ -5,6 +5,7 @@ mod id;
 mod id_words;
 mod ids;
 mod line;
+mod name;
 mod number;
 mod words;
 
@@ -12,4 +13,6 @@ pub use command::{Command, IndexChange, IndexQuestion, Selection, ShardQuestion}
 pub use id_words::IdWords;
 pub use ids::Ids;
 pub use line::{Line, read_line};
+pub use name::file_name;
+pub use number::number_within;
 pub use words::{cut_at, first_word};

@@ -1,10 +1,11 @@
-//! The script language: its lines, the session that they work on, and the run of a whole script.
+//! The script language: its lines, the session that they work on, and the runs of the program.
 #![tactic(auto)]
 
 mod language;
 pub mod laws;
 mod reply;
 mod runs;
+mod sample;
 mod session;
 
 pub use reply::{FactoryWord, Refusal, Reply, write_reply};

@@ -2,6 +2,7 @@
 mod factory_word;
 mod outgoing;
 mod refusal;
+mod refused;
 mod reply;
 mod send;
 mod shown;
@@ -10,4 +11,5 @@ mod text;
 pub use factory_word::FactoryWord;
 pub use refusal::Refusal;
 pub use reply::Reply;
+pub use send::send_piece;
 pub use text::write_reply;

@@ -1,5 +1,6 @@
 // The session that the commands of a script work on: a file for each group of commands.
 mod adding;
+mod files;
 mod halt;
 mod new;
 mod queries;

@@ -15,4 +15,6 @@ mod rows;
 #[cfg(test)]
 mod runs;
 #[cfg(test)]
+mod samples;
+#[cfg(test)]
 mod session;

@@ -8,7 +8,7 @@ use Rattle.std.specs.Option.{option_map}
 use Rattle.std.proofs.lemmas.Bool.{and_parts}
 use Rattle.std.proofs.lemmas.List.Splits.{length-slice_split}
 use Rattle.std.proofs.lemmas.Slice.Eq.{bytes_eq-Decides}
-use Rattle.faissb_core.specs.Language.Words.{Word, words_of, number, word, id, id_and_word, switch}
+use Rattle.faissb_core.specs.Language.Words.{Word, words_of, number, word, id, id_and_word, name as name_of, switch}
 use Rattle.id_select.specs.declared.selector.Selector.TheVariants.{Listed, AllBut}
 use Rattle.faissb_core.specs.Language.Command.{Command, Shard, Unshard, Change, Ask, AskShards, IndexChange, Add, AddIds}
 use Rattle.faissb_core.specs.Language.Command.{Centroids, DirectMap, Remove, IndexQuestion, Show, ShardQuestion}
@@ -30,6 +30,11 @@ more_than_one command first more = two_words number command first (words_of more
 
 pub switch_and_more : (first more : List ℕ) → one switch DirectMap (first ∷ words_of more) ≡ None
 switch_and_more first more = two_words switch DirectMap first (words_of more)
+    (omega (arith, length-slice_split (λ b. eqb b 32) more))
+
+pub name_and_more : (command : Word → Command) (first more : List ℕ)
+    → one name_of command (first ∷ words_of more) ≡ None
+name_and_more command first more = two_words name_of command first (words_of more)
     (omega (arith, length-slice_split (λ b. eqb b 32) more))
 
 -- more than two words
@@ -212,18 +217,21 @@ both_none false true rest is = refl
 both_none false false rest is = is
 
 none_behind : (name : Word) (words : List Word) (more : List (Entry Command)) → bytes_eq name (codes "new") ≡ false
+    → bytes_eq name (codes "load") ≡ false → bytes_eq name (codes "save") ≡ false
     → 0 < length words → named more (name ∷ words) ≡ None → named (others ++ more) (name ∷ words) ≡ None
-none_behind name [] more other some none = absurd (omega arith)
-none_behind name (w ∷ words) more other some none =
-    rw other (both_none (bytes_eq name (codes "shard")) (bytes_eq name (codes "unshard"))
+none_behind name [] more new load save some none = absurd (omega arith)
+none_behind name (w ∷ words) more new load save some none =
+    rw (new, load, save) (both_none (bytes_eq name (codes "shard")) (bytes_eq name (codes "unshard"))
     (named more (name ∷ w ∷ words)) none)
 
 -- another name
 pub neither_is : (name : Word) (words : List ℕ) → bytes_eq name (codes "new") ≡ false
+    → bytes_eq name (codes "load") ≡ false → bytes_eq name (codes "save") ≡ false
     → named changes (name ∷ words_of words) ≡ None → named questions (name ∷ words_of words) ≡ None
     → named shard_questions (name ∷ words_of words) ≡ None → named grammar (name ∷ words_of words) ≡ None
-neither_is name words other no_change no_question no_shards =
-    none_behind name (words_of words) behind_others other (omega (arith, length-slice_split (λ b. eqb b 32) words))
+neither_is name words new load save no_change no_question no_shards =
+    none_behind name (words_of words) behind_others new load save
+    (omega (arith, length-slice_split (λ b. eqb b 32) words))
     (named_none Change behind_changes name (words_of words) changes no_change
     (named_none Ask behind_questions name (words_of words) questions no_question
     (named_none AskShards [] name (words_of words) shard_questions no_shards refl)))

@@ -10,9 +10,9 @@ use Rattle.std.specs.Str.{bytes_eq}
 use Rattle.std.proofs.Common.{map, subst, nat_lt, FitsSigned, w64}
 use Rattle.std.proofs.lemmas.Int.{ints}
 use Rattle.std.proofs.lemmas.List.Elements.{All-nil, All-cons}
-use Rattle.faissb_core.specs.Language.Words.{Word, IdWord, words_of, is_word, word, number, switch, id, id_before}
+use Rattle.faissb_core.specs.Language.Words.{Word, IdWord, words_of, is_word, word, number, name as name_of, switch, id, id_before}
 use Rattle.faissb_core.specs.Language.Words.{id_and_word, positive_id, negative_id}
-use Rattle.faissb_core.specs.Language.Command.{Command, New, Shard, Unshard, Change, Ask, IndexChange, Add, AddIds}
+use Rattle.faissb_core.specs.Language.Command.{Command, New, Load, Save, Shard, Unshard, Change, Ask, IndexChange, Add, AddIds}
 use Rattle.faissb_core.specs.Language.Command.{Centroids, Nprobe}
 use Rattle.id_select.specs.declared.selector.Selector.TheVariants.{Listed, AllBut, Between}
 use Rattle.faissb_core.specs.Language.Command.{Nflip, MaxCodes, DirectMap, Remove, AskShards}
@@ -212,18 +212,36 @@ alone_made : (c : Command) → IsReadCommand c → (words : List Word) → OnSom
 alone_made c is [] = is
 alone_made c is (w ∷ words) = tt
 
+name_made : (f : Word → Command) → ((w : Word) → IsReadCommand (f w)) → (o : Option Word)
+    → OnSome IsReadCommand (option_map f o)
+name_made f each (Some w) = each w
+name_made f each None = tt
+
+names_made : (f : Word → Command) → ((w : Word) → IsReadCommand (f w)) → (words : List Word)
+    → OnSome IsReadCommand (one name_of f words)
+names_made f each [] = tt
+names_made f each (w ∷ []) = name_made f each (name_of w)
+names_made f each (w ∷ x ∷ words) = tt
+
 all_made : All_make IsReadCommand grammar
 all_made = (
   news_made,
   (
-    alone_made Shard tt,
+    names_made Load (λ w. tt),
     (
-      alone_made Unshard tt,
-      all_under IsReadCommand IsReadChange Change changes
-          (map (under Ask) questions ++ map (under AskShards) shard_questions) (λ c is. is) all_changes
-          (all_under IsReadCommand (λ _. Unit {0}) Ask questions (map (under AskShards) shard_questions) (λ q is. tt)
-          (all_any questions)
-          (all_under IsReadCommand (λ _. Unit {0}) AskShards shard_questions [] (λ q is. tt) (all_any shard_questions) tt)),
+      names_made Save (λ w. tt),
+      (
+        alone_made Shard tt,
+        (
+          alone_made Unshard tt,
+          all_under IsReadCommand IsReadChange Change changes
+              (map (under Ask) questions ++ map (under AskShards) shard_questions) (λ c is. is) all_changes
+              (all_under IsReadCommand (λ _. Unit {0}) Ask questions (map (under AskShards) shard_questions)
+              (λ q is. tt) (all_any questions)
+              (all_under IsReadCommand (λ _. Unit {0}) AskShards shard_questions [] (λ q is. tt)
+              (all_any shard_questions) tt)),
+        ),
+      ),
     ),
   ),
 )

@@ -55,7 +55,7 @@ SoFar-start input now held is = record {
 }
 
 -- the files fit what was fed of a script that they fit
-fits_fed : (files : Files) (contents : Option Contents) (bytes : List ℕ) → Fits files contents (loads bytes)
+pub fits_fed : (files : Files) (contents : Option Contents) (bytes : List ℕ) → Fits files contents (loads bytes)
     → Fits files contents (fed_loads (begin files) bytes)
 fits_fed files contents bytes fits = Fits-first files contents _ _ _ (whole files bytes).loads_is fits
 
@@ -178,7 +178,7 @@ module _ (files : Files) (bytes : List ℕ) (before now new : Outputs)
       } in
       failed bytes files before new fault fails
 
-  leaves_last : (status : Status) → EndLeaves status p now new → Leaves status bytes files before new
+  pub leaves_last : (status : Status) → EndLeaves status p now new → Leaves status bytes files before new
   leaves_last Fine ends = answered false ends
   leaves_last Refused ends = answered true ends
   leaves_last OutputFault ends = last_fails Output ends

@@ -8,7 +8,7 @@ use Rattle.std.proofs.Math.Bool.{or_assoc}
 use Rattle.std.proofs.lemmas.List.{append_assoc, take_all, length-take}
 use Rattle.std.proofs.Math.Seq.{take-add}
 use Rattle.outside.specs.Contents.{Files}
-use Rattle.faissb_core.specs.Language.Lines.{Line, line_of, line_limit, is_load, is_save}
+use Rattle.faissb_core.specs.Language.Lines.{Line, line_of, line_limit, reads_file, writes_file, is_load, is_save}
 use Rattle.faissb_core.specs.Reply.Text.{reply_text}
 use Rattle.faissb_core.specs.Machine.State.{State}
 use Rattle.faissb_core.specs.Machine.Step.{Step, step, step_with, line_outcome}
@@ -42,10 +42,10 @@ unfolding step
 step-kept state files line = ap (λ (l : Line). step_with state files (line_outcome l state files)) (line_of-kept line)
 
 pub is_load-kept : (line : List ℕ) → is_load (take line_kept line) ≡ is_load line
-is_load-kept line = refl
+is_load-kept line = ap reads_file (line_of-kept line)
 
 pub is_save-kept : (line : List ℕ) → is_save (take line_kept line) ≡ is_save line
-is_save-kept line = refl
+is_save-kept line = ap writes_file (line_of-kept line)
 
 pub text-append : (state : State) (files : Files) (xs ys : List (List ℕ))
     → text_after state files (xs ++ ys)

@@ -1,9 +1,10 @@
 -- Each step leads from a legal state to a legal one.
 use Rattle.std.proofs.Common.{◌≡◌, ℕ, suc, ◌+◌, ◌-◌, ◌*◌, ◌^◌, ◌<◌, ◌≤◌, ℤ, FitsSigned, w64, Bool, true, false, not}
-use Rattle.std.proofs.Common.{◌||◌, nat_le, nat_lt, Some, is_some, Result, Ok, Err}
+use Rattle.std.proofs.Common.{◌||◌, nat_le, nat_lt, cond, Option, Some, None, is_some, Result, Ok, Err}
 use Rattle.std.proofs.Common.{List, [], ◌∷◌, ◌++◌, length, map, sum_by, refl, sym, ap, ◌∙◌, subst, arith}
 use Rattle.std.specs.List.{All, list_all}
 use Rattle.std.specs.Result.{result_ok}
+use Rattle.std.specs.Str.{bytes_eq}
 use Rattle.std.proofs.lemmas.Bool.{and_parts, eq-eqb, leb-true, ltb-true}
 use Rattle.std.proofs.lemmas.List.{get_or_default, length-map}
 use Rattle.std.proofs.lemmas.List.Elements.{All-nil, All-cons, All-append}
@@ -24,23 +25,35 @@ use Rattle.id_select.proofs.LegalLemmas.{removed_legal}
 use Rattle.shard_set.specs.Joined.{is_alike}
 use Rattle.shard_set.proofs.AlikeLemmas.{are_alike_push}
 use Rattle.any_index.proofs.LoadLemmas.{few_after_add}
-use Rattle.outside.specs.Contents.{Files}
+use Rattle.multi_hash.specs.Wide.{wide}
+use Rattle.multi_hash.specs.declared.wide.Wide.{Wide}
+use Rattle.outside.specs.Contents.{Files, put}
+use Rattle.file_parts.specs.declared.file_fault.FileFault.{FileFault}
+use Rattle.file_parts.specs.Format.{read}
+use Rattle.file_parts.proofs.Reading.{read-spells, spells-read}
+use Rattle.index_files.specs.Canon.{canon}
+use Rattle.index_files.specs.File.{settled, IsFile}
+use Rattle.index_files.specs.FileFormat.{file}
+use Rattle.index_files.proofs.KindLaws.{again, found}
+use Rattle.index_files.proofs.CanonLaws as canonical
+use Rattle.faissb_core.specs.declared.reply.refusal.Refusal.{Refusal}
 use Rattle.faissb_core.specs.declared.reply.refusal.Refusal.TheVariants.{Code, Dim, Factory, Ids, Kind, Value, Full, Untrained}
-use Rattle.faissb_core.specs.declared.reply.refusal.Refusal.TheVariants.{Load, NoIndex, Sequential, Mismatch}
+use Rattle.faissb_core.specs.declared.reply.refusal.Refusal.TheVariants.{Load as Heavy, NoIndex, Sequential, Mismatch, NoFile, File, BucketBits}
 use Rattle.faissb_core.specs.declared.reply.factory_word.FactoryWord.TheVariants.{Misfit}
 use Rattle.faissb_core.specs.Language.Words.{Word, IdWord}
-use Rattle.faissb_core.specs.Language.Command.{Command, New, Shard, Unshard, Change, Ask, AskShards}
+use Rattle.faissb_core.specs.Language.Command.{Command, New, Load, Save, Shard, Unshard, Change, Ask, AskShards}
 use Rattle.faissb_core.specs.Language.Command.{IndexChange, Add, AddIds, Centroids}
 use Rattle.faissb_core.specs.Language.Command.{Nprobe, Nflip, MaxCodes, DirectMap, Remove}
 use Rattle.faissb_core.specs.Language.Lines.{Line, TooLong, Silent, Whole, Broken, line_of, makes_shard, is_shard}
-use Rattle.faissb_core.specs.Machine.Checked.{Checked, given◌else◌, demand◌else◌, ◌>>=◌, is_within}
+use Rattle.faissb_core.specs.Machine.Checked.{Checked, given◌else◌, demand◌else◌, absent◌else◌, accept◌else◌, ◌>>=◌, ◌>>◌, is_within}
 use Rattle.faissb_core.specs.Machine.State.{State, Outcome, Changed, code_of, codes_of}
 use Rattle.faissb_core.specs.Machine.New.{new_index, word_of}
 use Rattle.faissb_core.specs.Machine.Adding.{add, add_ids, append, give_centroids, is_light}
 use Rattle.faissb_core.specs.Machine.Settings.{set_nprobe, set_nflip, set_max_codes, set_direct}
+use Rattle.faissb_core.specs.Machine.Files.{loaded, spelled}
 use Rattle.faissb_core.specs.Machine.Shards.{may_be_shard, shard_limit, with_shard}
 use Rattle.faissb_core.specs.Machine.Step.{step, step_with, line_outcome, command_outcome, change, ask, ask_shards}
-use Rattle.faissb_core.specs.Machine.Legal.{IsLegalIndex, AreLegalShards, IsLegalState}
+use Rattle.faissb_core.specs.Machine.Legal.{IsLegalIndex, AreLegalShards, IsLegalState, HoldBytes}
 use Rattle.faissb_core.proofs.LanguageLemmas.ReadLemmas.{IsReadCommand, IsReadLine, line_is_read}
 use Rattle.faissb_core.proofs.SessionLemmas.CheckedLemmas.{given_value, bind_gives, demand_gives, given_gives}
 use Rattle.faissb_core.proofs.SessionLemmas.CheckedLemmas.{accept_gives}
@@ -119,7 +132,7 @@ append_legal : (v : IndexValue) (labels : List ℤ) (added : List (List ℕ)) �
     → IfOk (append labels added v) IsLegalChange
 append_legal v labels added legal codes same places fit =
     demand_gives IsLegalChange (is_trained v) Untrained _ (λ trained.
-    demand_gives IsLegalChange (is_light (after_add v labels added)) Load _ (λ test.
+    demand_gives IsLegalChange (is_light (after_add v labels added)) Heavy _ (λ test.
     let light : load_of (after_add v labels added) ≤ load_limit
     = leb-true (load_of (after_add v labels added)) load_limit test in
     legal_after_add v labels added legal (fit light) codes same trained places light))
@@ -154,7 +167,7 @@ centroids_legal words v legal =
     bind_gives IsLegalChange (codes_of (code_size v) words) _ (λ more read.
     given_gives IsLegalChange (ivf_in v) Kind _ (λ ivf is.
     demand_gives IsLegalChange (nat_le (length ivf.centroids + length more) ivf.nlist) Full _ (λ few.
-    demand_gives IsLegalChange (is_light (after_centroids v more)) Load _ (λ light.
+    demand_gives IsLegalChange (is_light (after_centroids v more)) Heavy _ (λ light.
     legal_after_centroids v ivf more legal is (codes_are (code_size v) words more read)
     (leb-true (length ivf.centroids + length more) ivf.nlist few)
     (leb-true (load_of (after_centroids v more)) load_limit light)))))
@@ -234,28 +247,80 @@ one_more : (vs : List IndexValue) (v : IndexValue) → AreLegalShards vs → IsL
     → IfOk (with_shard vs v) AreLegalShards
 one_more vs v legal this =
     demand_gives AreLegalShards (may_be_shard v) Kind _ (λ kind.
-    demand_gives AreLegalShards (nat_le (sum_by load_of (vs ++ v ∷ [])) shard_limit) Load _ (λ light.
+    demand_gives AreLegalShards (nat_le (sum_by load_of (vs ++ v ∷ [])) shard_limit) Heavy _ (λ light.
     demand_gives AreLegalShards (list_all (is_alike v) vs) Mismatch _ (λ alike. record {
       each = All-append IsLegal vs (v ∷ []) legal.each (All-cons IsLegal v [] this (All-nil IsLegal));
       alike = are_alike_push vs v legal.alike (alike_to_itself v kind) alike;
       load = leb-true (sum_by load_of (vs ++ v ∷ [])) shard_limit light;
     })))
 
+-- ---- files
+
+-- what is read of a file is legal
+abbrev pub HoldLegal : Files → Type 0
+HoldLegal files = (name bytes : List ℕ) (v : IndexValue) → files name ≡ Some bytes → read file bytes ≡ Ok v → IsLegal v
+
+pub bytes_hold : (files : Files) → HoldBytes files → HoldLegal files
+bytes_hold files are name bytes v is reads = (found bytes v (are name bytes is) (spells-read file bytes v reads)).legal
+
+accepted_value : {A E : Type 0} (P : A → Type 0) (r : Result A E) (refusal : E → Refusal)
+    → ((x : A) → r ≡ Ok x → P x) → IfOk (accept r else refusal) P
+accepted_value P (Ok x) refusal each = each x refl
+accepted_value P (Err e) refusal each = tt
+
+loaded_legal : (files : Files) (name : Word) → HoldLegal files → IfOk (loaded files name) IsLegal
+loaded_legal files name hold =
+    given_gives IsLegal (files name) NoFile _ (λ bytes is.
+    accepted_value IsLegal (read file bytes) File (λ v reads. hold name bytes v is reads))
+
+same_value : (v w : IndexValue) (r : Result IndexValue FileFault) → r ≡ Ok v → r ≡ Ok w → v ≡ w
+same_value v w r is also = cc
+
+-- what was written of a legal index is read as one
+canon_legal : (v w : IndexValue) → IsLegal v → wide v ≡ None → read file (canon v) ≡ Ok w → IsLegal w
+canon_legal v w legal narrow reads =
+    let good : IsFile (settled v) (canon v) = canonical.written v legal narrow in
+    subst IsLegal (same_value (settled v) w (read file (canon v))
+    (read-spells file (canon v) (settled v) (again (canon v) (settled v) good)) reads) good.legal
+
+pick_hold : (test : Bool) (bytes other : List ℕ) (o : Option (List ℕ)) (v w : IndexValue) → IsLegal v → wide v ≡ None
+    → bytes ≡ canon v → (o ≡ Some other → read file other ≡ Ok w → IsLegal w)
+    → cond test (Some bytes) o ≡ Some other → read file other ≡ Ok w → IsLegal w
+pick_hold true bytes other o v w legal narrow is rest here reads =
+    let same : other ≡ canon v = cc in
+    canon_legal v w legal narrow (subst (λ b. read file b ≡ Ok w) same reads)
+pick_hold false bytes other o v w legal narrow is rest here reads = rest here reads
+
+saved_hold : (files : Files) (name : Word) (v : IndexValue) (bytes : List ℕ) → HoldLegal files → IsLegal v
+    → wide v ≡ None → bytes ≡ canon v → HoldLegal (put files name bytes)
+saved_hold files name v bytes hold legal narrow is other read_bytes w here reads =
+    pick_hold (bytes_eq other name) bytes read_bytes (files other) v w legal narrow is
+    (λ before. hold other read_bytes w before) here reads
+
+record IsNarrow (v : IndexValue) (bytes : List ℕ) : Type 0 where
+  narrow : wide v ≡ None
+  same : bytes ≡ canon v
+
+spelled_narrow : (v : IndexValue) (o : Option Wide) → wide v ≡ o
+    → IfOk ((absent o else BucketBits) >> Ok (canon v)) (IsNarrow v)
+spelled_narrow v None is = record { narrow = is; same = refl }
+spelled_narrow v (Some w) is = tt
+
 -- ---- steps
 
--- a state that follows another, and keeps an index where it is to keep one
-pub record Follows (keeps : Bool) (before after : State) : Type 0 where
-  pub legal : IsLegalState after
+-- a state that follows another, and keeps an index where it is to keep one; it is legal where the files read are
+pub record Follows (sound : Type 0) (keeps : Bool) (before after : State) : Type 0 where
+  pub legal : sound → IsLegalState after
   pub some : keeps ≡ true → is_some before.index ≡ true → is_some after.index ≡ true
 
-stays : (keeps : Bool) (s : State) → IsLegalState s → Follows keeps s s
-stays keeps s legal = record { legal = legal; some = λ _ is. is }
+stays : (sound : Type 0) (keeps : Bool) (s : State) → IsLegalState s → Follows sound keeps s s
+stays sound keeps s legal = record { legal = λ _. legal; some = λ _ is. is }
 
 -- a legal index in a state
-now_holds : (keeps : Bool) (s : State) (v : IndexValue) → IsLegalState s → IsLegal v
-    → Follows keeps s (record s { index = Some v })
-now_holds keeps s v before legal = record {
-  legal = record { index = legal; shards = before.shards };
+now_holds : (sound : Type 0) (keeps : Bool) (s : State) (v : IndexValue) → IsLegalState s → (sound → IsLegal v)
+    → Follows sound keeps s (record s { index = Some v })
+now_holds sound keeps s v before legal = record {
+  legal = λ are. record { index = legal are; shards = before.shards };
   some = λ _ _. refl;
 }
 
@@ -266,14 +331,23 @@ abbrev keeps_index : Command → Bool
 keeps_index command = not (makes_shard (Whole command))
 
 command_follows : (s : State) (files : Files) (command : Command) → IsReadCommand command → IsLegalState s
-    → IfOk (command_outcome command s files) (λ o. Follows (keeps_index command) s o.state)
+    → IfOk (command_outcome command s files) (λ o. Follows (HoldLegal files) (keeps_index command) s o.state)
 command_follows s files (New bits text) read legal =
-    bind_gives (λ o. Follows true s o.state) (new_index bits text) _ (λ v is.
-    now_holds true s v legal (given_value IsLegal (new_index bits text) v (new_legal bits text) is))
+    bind_gives (λ o. Follows (HoldLegal files) true s o.state) (new_index bits text) _ (λ v is.
+    now_holds (HoldLegal files) true s v legal (λ hold. given_value IsLegal (new_index bits text) v
+    (new_legal bits text) is))
+command_follows s files (Load name) read legal =
+    bind_gives (λ o. Follows (HoldLegal files) true s o.state) (loaded files name) _ (λ v is.
+    now_holds (HoldLegal files) true s v legal (λ hold. given_value IsLegal (loaded files name) v
+    (loaded_legal files name hold) is))
+command_follows s files (Save name) read legal =
+    given_gives (λ o. Follows (HoldLegal files) true s o.state) s.index NoIndex _ (λ v holds.
+    bind_gives (λ o. Follows (HoldLegal files) true s o.state) (spelled v) _ (λ bytes is.
+    stays (HoldLegal files) true s legal))
 command_follows s files Shard read legal =
-    given_gives (λ o. Follows false s o.state) s.index NoIndex _ (λ v holds.
-    bind_gives (λ o. Follows false s o.state) (with_shard s.shards v) _ (λ vs is. record {
-      legal = record {
+    given_gives (λ o. Follows (HoldLegal files) false s o.state) s.index NoIndex _ (λ v holds.
+    bind_gives (λ o. Follows (HoldLegal files) false s o.state) (with_shard s.shards v) _ (λ vs is. record {
+      legal = λ hold. record {
         index = tt;
         shards = given_value AreLegalShards (with_shard s.shards v) vs
             (one_more s.shards v legal.shards (held_legal s v legal holds)) is;
@@ -281,37 +355,85 @@ command_follows s files Shard read legal =
       some = λ not. absurd cc;
     }))
 command_follows s files Unshard read legal = record {
-  legal = record { index = legal.index; shards = no_shards };
+  legal = λ hold. record { index = legal.index; shards = no_shards };
   some = λ _ is. is;
 }
 command_follows s files (Change c) read legal =
-    given_gives (λ o. Follows true s o.state) s.index NoIndex _ (λ v holds.
-    bind_gives (λ o. Follows true s o.state) (change c v) _ (λ done is.
-    now_holds true s done.index legal (given_value IsLegalChange (change c v) done
+    given_gives (λ o. Follows (HoldLegal files) true s o.state) s.index NoIndex _ (λ v holds.
+    bind_gives (λ o. Follows (HoldLegal files) true s o.state) (change c v) _ (λ done is.
+    now_holds (HoldLegal files) true s done.index legal (λ hold. given_value IsLegalChange (change c v) done
     (change_legal c v read (held_legal s v legal holds)) is)))
 command_follows s files (Ask question) read legal =
-    given_gives (λ o. Follows true s o.state) s.index NoIndex _ (λ v holds.
-    bind_gives (λ o. Follows true s o.state) (ask question v) _ (λ answer is. stays true s legal))
+    given_gives (λ o. Follows (HoldLegal files) true s o.state) s.index NoIndex _ (λ v holds.
+    bind_gives (λ o. Follows (HoldLegal files) true s o.state) (ask question v) _ (λ answer is.
+    stays (HoldLegal files) true s legal))
 command_follows s files (AskShards question) read legal =
-    bind_gives (λ o. Follows true s o.state) (ask_shards question s.shards) _ (λ answer is. stays true s legal)
+    bind_gives (λ o. Follows (HoldLegal files) true s o.state) (ask_shards question s.shards) _ (λ answer is.
+    stays (HoldLegal files) true s legal)
 
 abbrev line_keeps : Line → Bool
 line_keeps line = not (makes_shard line)
 
 line_follows : (s : State) (files : Files) (line : Line) → IsReadLine line → IsLegalState s
-    → IfOk (line_outcome line s files) (λ o. Follows (line_keeps line) s o.state)
+    → IfOk (line_outcome line s files) (λ o. Follows (HoldLegal files) (line_keeps line) s o.state)
 line_follows s files TooLong read legal = tt
-line_follows s files Silent read legal = stays true s legal
+line_follows s files Silent read legal = stays (HoldLegal files) true s legal
 line_follows s files (Whole command) read legal = command_follows s files command read legal
 line_follows s files Broken read legal = tt
 
 step_with_follows : (keeps : Bool) (s : State) (files : Files) (c : Checked Outcome) → IsLegalState s
-    → IfOk c (λ o. Follows keeps s o.state) → Follows keeps s (step_with s files c).state
+    → IfOk c (λ o. Follows (HoldLegal files) keeps s o.state)
+    → Follows (HoldLegal files) keeps s (step_with s files c).state
 step_with_follows keeps s files (Ok o) legal follows = follows
-step_with_follows keeps s files (Err e) legal follows = stays keeps s legal
+step_with_follows keeps s files (Err e) legal follows = stays (HoldLegal files) keeps s legal
 
 pub step_follows : (s : State) (files : Files) (line : List ℕ) → IsLegalState s
-    → Follows (not (is_shard line)) s (step s files line).state
+    → Follows (HoldLegal files) (not (is_shard line)) s (step s files line).state
 unfolding step
 step_follows s files line legal = step_with_follows (not (is_shard line)) s files
     (line_outcome (line_of line) s files) legal (line_follows s files (line_of line) (line_is_read line) legal)
+
+-- ---- the files after a step
+
+command_holds : (s : State) (files : Files) (command : Command) → IsLegalState s → HoldLegal files
+    → IfOk (command_outcome command s files) (λ o. HoldLegal o.files)
+command_holds s files (New bits text) legal hold =
+    bind_gives (λ o. HoldLegal o.files) (new_index bits text) _ (λ v is. hold)
+command_holds s files (Load name) legal hold =
+    bind_gives (λ o. HoldLegal o.files) (loaded files name) _ (λ v is. hold)
+command_holds s files (Save name) legal hold =
+    given_gives (λ o. HoldLegal o.files) s.index NoIndex _ (λ v holds.
+    bind_gives (λ o. HoldLegal o.files) (spelled v) _ (λ bytes is.
+    let narrow : IsNarrow v bytes = given_value (IsNarrow v) (spelled v) bytes (spelled_narrow v (wide v) refl) is in
+    saved_hold files name v bytes hold (held_legal s v legal holds) narrow.narrow narrow.same))
+command_holds s files Shard legal hold =
+    given_gives (λ o. HoldLegal o.files) s.index NoIndex _ (λ v holds.
+    bind_gives (λ o. HoldLegal o.files) (with_shard s.shards v) _ (λ vs is. hold))
+command_holds s files Unshard legal hold = hold
+command_holds s files (Change c) legal hold =
+    given_gives (λ o. HoldLegal o.files) s.index NoIndex _ (λ v holds.
+    bind_gives (λ o. HoldLegal o.files) (change c v) _ (λ done is. hold))
+command_holds s files (Ask question) legal hold =
+    given_gives (λ o. HoldLegal o.files) s.index NoIndex _ (λ v holds.
+    bind_gives (λ o. HoldLegal o.files) (ask question v) _ (λ answer is. hold))
+command_holds s files (AskShards question) legal hold =
+    bind_gives (λ o. HoldLegal o.files) (ask_shards question s.shards) _ (λ answer is. hold)
+
+line_holds : (s : State) (files : Files) (line : Line) → IsLegalState s → HoldLegal files
+    → IfOk (line_outcome line s files) (λ o. HoldLegal o.files)
+line_holds s files TooLong legal hold = tt
+line_holds s files Silent legal hold = hold
+line_holds s files (Whole command) legal hold = command_holds s files command legal hold
+line_holds s files Broken legal hold = tt
+
+step_with_holds : (s : State) (files : Files) (c : Checked Outcome) → HoldLegal files
+    → IfOk c (λ o. HoldLegal o.files) → HoldLegal (step_with s files c).files
+step_with_holds s files (Ok o) hold holds = holds
+step_with_holds s files (Err e) hold holds = hold
+
+pub step_holds : (s : State) (files : Files) (line : List ℕ) → IsLegalState s → HoldLegal files
+    → HoldLegal (step s files line).files
+unfolding step
+step_holds s files line legal hold =
+    step_with_holds s files (line_outcome (line_of line) s files) hold
+    (line_holds s files (line_of line) legal hold)

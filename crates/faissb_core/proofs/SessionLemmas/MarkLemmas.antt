@@ -1,7 +1,7 @@
 -- A marked answer is that of a full scan.
 use Rattle.std.proofs.Common.{◌≡◌, ◌≤◌, ◌+◌, ◌-◌, ◌*◌, ◌^◌, ℕ, ℤ, Bool, true, false, not, ◌||◌, nat_le, nat_lt, length, map, Option, Some, Ok, Err, List, [], ◌∷◌}
-use Rattle.std.proofs.Common.{refl, sym, ap, ◌∙◌, subst, arith}
-use Rattle.std.proofs.lemmas.Bool.{le-leb}
+use Rattle.std.proofs.Common.{◌⊎◌, inl, inr, None, refl, sym, ap, ◌∙◌, subst, arith}
+use Rattle.std.proofs.lemmas.Bool.{cases_Bool, le-leb}
 use Rattle.std.specs.Result.{IfOk}
 use Rattle.bcodes.specs.declared.hit.Hit.{Hit}
 use Rattle.bcodes.specs.Value.{ListRow, Flat, Ivf, Hash, Multi, MultiValue, IndexValue, Bare, IdMap, IsLegal, code_size}
@@ -10,36 +10,39 @@ use Rattle.bcodes.specs.Settings.{ivf_in, multi_in, key_bits, needs_ids, is_numb
 use Rattle.bcodes.specs.Answers.{best, within, scan_best, scan_within, looked, bound_of, after_add, after_centroids}
 use Rattle.bcodes.specs.Marks.{search_mark, range_mark, probes_all}
 use Rattle.bcodes.proofs.MarkedLemmas.{marked_best, marked_within}
-use Rattle.outside.specs.Contents.{Files}
+use Rattle.outside.specs.Contents.{Contents, Files, no_files}
 use Rattle.faissb_core.specs.declared.reply.reply.Reply.{Reply}
 use Rattle.faissb_core.specs.declared.reply.refusal.Refusal.{Refusal}
-use Rattle.faissb_core.specs.declared.reply.refusal.Refusal.TheVariants.{Ids, Kind, NoIndex, Value, Full, Untrained, Load}
+use Rattle.faissb_core.specs.declared.reply.refusal.Refusal.TheVariants.{Ids, Kind, NoIndex, Value, Full, Untrained}
+use Rattle.faissb_core.specs.declared.reply.refusal.Refusal.TheVariants.{Load as Heavy}
 use Rattle.faissb_core.specs.declared.reply.refusal.Refusal.TheVariants.{NoDirect, Sequential}
 use Rattle.any_index.specs.Labels.{finds_labels, code_labelled}
 use Rattle.id_select.specs.Removal.{removed}
 use Rattle.shard_set.specs.Joined.{joined, joined_best, joined_count, joined_looked, joined_within}
 use Rattle.shard_set.proofs.LawLemmas.{joined_best_is, joined_legal, joined_within_is}
 use Rattle.faissb_core.specs.Language.Words.{Word, IdWord}
-use Rattle.faissb_core.specs.Language.Command.{Command, New, Shard, Unshard, Change, Ask, AskShards}
+use Rattle.faissb_core.specs.Language.Command.{Command, New, Load, Save, Shard, Unshard, Change, Ask, AskShards}
 use Rattle.faissb_core.specs.Language.Command.{IndexChange, Add, AddIds, Centroids, Nprobe, Nflip, MaxCodes}
 use Rattle.faissb_core.specs.Language.Command.{DirectMap, Remove}
 use Rattle.faissb_core.specs.Language.Command.{IndexQuestion, Search, Range, Nearest, Reconstruct, Show}
 use Rattle.faissb_core.specs.Language.Command.{ShardQuestion, ShardSearch, ShardRange}
-use Rattle.faissb_core.specs.Language.Lines.{Line, TooLong, Silent, Whole, Broken, line_of}
+use Rattle.faissb_core.specs.Language.Lines.{Line, TooLong, Silent, Whole, Broken, line_of, is_load}
 use Rattle.faissb_core.specs.Reply.Answer.{Answer, Quiet, Done, Added, Held, Found, Code, reply_of}
-use Rattle.faissb_core.specs.Reply.Answer.{Shown, Sharded, Removed}
+use Rattle.faissb_core.specs.Reply.Answer.{Saved, Loaded, Shown, Sharded, Removed}
 use Rattle.faissb_core.specs.Machine.Checked.{Checked, given◌else◌, demand◌else◌, ◌>>=◌, is_within}
 use Rattle.faissb_core.specs.Machine.State.{State, Outcome, Changed, code_of, codes_of}
 use Rattle.faissb_core.specs.Machine.New.{new_index}
 use Rattle.faissb_core.specs.Machine.Adding.{append, is_light}
 use Rattle.faissb_core.specs.Machine.Queries.{search, range, nearest, reconstruct, k_limit, radius_limit}
+use Rattle.faissb_core.specs.Machine.Files.{loaded, spelled}
 use Rattle.faissb_core.specs.Machine.Shards.{with_shard, shard_search, shard_range}
 use Rattle.faissb_core.specs.Machine.Step.{step, step_with, line_outcome, command_outcome, change, ask, ask_shards}
 use Rattle.faissb_core.specs.Machine.Legal.{AreLegalShards, IsLegalState}
 use Rattle.faissb_core.specs.Machine.Marked.{scan_of, question_scan, shard_scan, MarkedIsScan, AllMarkedAreScans}
 use Rattle.faissb_core.specs.Machine.Marked.{IsWithinBound, IsNotPartial, AllWithinBoundAreExact, best_scan, range_scan}
+use Rattle.faissb_core.specs.Session.Applied.{said_step, AnswersLoad, IsAnswered}
 use Rattle.faissb_core.proofs.SessionLemmas.CheckedLemmas.{given_value, bind_gives, demand_gives, given_gives}
-use Rattle.faissb_core.proofs.SessionLemmas.LegalLemmas.{held_legal, step_follows}
+use Rattle.faissb_core.proofs.SessionLemmas.LegalLemmas.{HoldLegal, held_legal, step_follows, step_holds}
 
 -- ---- replies that are no hits
 
@@ -53,7 +56,7 @@ IsQuiet done = IsNotFound done.answer
 append_quiet : (labels : List ℤ) (added : List (List ℕ)) (v : IndexValue) → IfOk (append labels added v) IsQuiet
 append_quiet labels added v =
     demand_gives IsQuiet (is_trained v) Untrained _ (λ trained.
-    demand_gives IsQuiet (is_light (after_add v labels added)) Load _ (λ light. tt))
+    demand_gives IsQuiet (is_light (after_add v labels added)) Heavy _ (λ light. tt))
 
 change_quiet : (c : IndexChange) (v : IndexValue) → IfOk (change c v) IsQuiet
 change_quiet (Add words) v =
@@ -67,7 +70,7 @@ change_quiet (Centroids words) v =
     bind_gives IsQuiet (codes_of (code_size v) words) _ (λ more read.
     given_gives IsQuiet (ivf_in v) Kind _ (λ ivf is.
     demand_gives IsQuiet (nat_le (length ivf.centroids + length more) ivf.nlist) Full _ (λ few.
-    demand_gives IsQuiet (is_light (after_centroids v more)) Load _ (λ light. tt))))
+    demand_gives IsQuiet (is_light (after_centroids v more)) Heavy _ (λ light. tt))))
 change_quiet (Nprobe n) v =
     given_gives IsQuiet (ivf_in v) Kind _ (λ ivf is.
     demand_gives IsQuiet (is_within 1 (2 ^ 63 - 1) n) Value _ (λ test. tt))
@@ -99,6 +102,11 @@ command_answered : (P : Checked Answer → Type 0) (s : State) (files : Files) (
     → IfOk (command_outcome command s files) (IsAnsweredBy P)
 command_answered P s files (New bits text) spares asked asked_shards =
     bind_gives (IsAnsweredBy P) (new_index bits text) _ (λ v is. spares Done tt)
+command_answered P s files (Load name) spares asked asked_shards =
+    bind_gives (IsAnsweredBy P) (loaded files name) _ (λ v is. spares (Loaded (count_of v)) tt)
+command_answered P s files (Save name) spares asked asked_shards =
+    given_gives (IsAnsweredBy P) s.index NoIndex _ (λ v holds.
+    bind_gives (IsAnsweredBy P) (spelled v) _ (λ bytes is. spares (Saved (length bytes)) tt))
 command_answered P s files Shard spares asked asked_shards =
     given_gives (IsAnsweredBy P) s.index NoIndex _ (λ v holds.
     bind_gives (IsAnsweredBy P) (with_shard s.shards v) _ (λ vs is. spares (Sharded (length vs) (joined_count vs)) tt))
@@ -142,6 +150,8 @@ spares_marked scan (Added m n) is = tt
 spares_marked scan (Held m n) is = tt
 spares_marked scan (Found hits lent mark) is = absurd is
 spares_marked scan (Code code) is = tt
+spares_marked scan (Saved n) is = tt
+spares_marked scan (Loaded n) is = tt
 spares_marked scan (Shown about) is = tt
 spares_marked scan (Sharded m n) is = tt
 spares_marked scan (Removed m n) is = tt
@@ -276,6 +286,8 @@ spares_partial (Added m n) is = tt
 spares_partial (Held m n) is = tt
 spares_partial (Found hits lent mark) is = absurd is
 spares_partial (Code code) is = tt
+spares_partial (Saved n) is = tt
+spares_partial (Loaded n) is = tt
 spares_partial (Shown about) is = tt
 spares_partial (Sharded m n) is = tt
 spares_partial (Removed m n) is = tt
@@ -340,11 +352,13 @@ step_exact s files line bound = bound_line s files (line_of line) bound
 
 -- ---- each answer to some lines
 
-pub lines_are : (s : State) (files : Files) (lines : List (List ℕ)) → IsLegalState s → AllMarkedAreScans s files lines
-lines_are s files [] legal = tt
-lines_are s files (line ∷ more) legal = (
+pub lines_are : (s : State) (files : Files) (lines : List (List ℕ)) → IsLegalState s → HoldLegal files
+    → AllMarkedAreScans s files lines
+lines_are s files [] legal hold = tt
+lines_are s files (line ∷ more) legal hold = (
   step_is s files line legal,
-  lines_are (step s files line).state (step s files line).files more (step_follows s files line legal).legal,
+  lines_are (step s files line).state (step s files line).files more ((step_follows s files line legal).legal hold)
+      (step_holds s files line legal hold),
 )
 
 pub lines_exact : (s : State) (files : Files) (lines : List (List ℕ)) → AllWithinBoundAreExact s files lines
@@ -356,11 +370,64 @@ lines_exact s files (line ∷ more) = (
 
 -- ---- what the session answers
 
-pub reply_is : (s : State) (files : Files) (line : List ℕ) (reply : Reply) → IsLegalState s
-    → reply_of reply ≡ (step s files line).reply → MarkedIsScan (scan_of (line_of line) s) (reply_of reply)
-reply_is s files line reply legal replied =
-    subst (λ r. MarkedIsScan (scan_of (line_of line) s) r) (sym replied) (step_is s files line legal)
+-- the files that a shelf tells
+abbrev known : Option Contents → Files
+known None = no_files
+known (Some contents) = contents.files
 
-pub reply_exact : (s : State) (files : Files) (line : List ℕ) (reply : Reply) → reply_of reply ≡ (step s files line).reply
-    → IsWithinBound (line_of line) s → IsNotPartial (reply_of reply)
-reply_exact s files line reply replied bound = subst IsNotPartial (sym replied) (step_exact s files line bound)
+-- a reply is that of the step, or it answers a load
+replied : (line : List ℕ) (s new : State) (before after : Option Contents) (reply : Reply)
+    → IsAnswered (line_of line) s new before after reply
+    → (reply_of reply ≡ (said_step (line_of line) s (known before)).reply) ⊎ AnswersLoad (reply_of reply)
+replied line s new (Some contents) after reply is = inl (is.step contents.files refl).reply_is
+replied line s new None after reply is =
+    elim (cases_Bool (is_load line)) [
+      | inl reads ↦ inr (is.loaded reads)
+      | inr keeps ↦ inl (is.step no_files keeps).reply_is
+    ]
+
+load_marked : (scan : Checked (List Hit)) (r : Checked Answer) → AnswersLoad r → MarkedIsScan scan r
+load_marked scan (Ok (Loaded n)) is = tt
+load_marked scan (Err refusal) is = tt
+load_marked scan (Ok Quiet) is = tt
+load_marked scan (Ok Done) is = tt
+load_marked scan (Ok (Added m n)) is = tt
+load_marked scan (Ok (Held m n)) is = tt
+load_marked scan (Ok (Found hits lent mark)) is = absurd is
+load_marked scan (Ok (Code code)) is = tt
+load_marked scan (Ok (Saved n)) is = tt
+load_marked scan (Ok (Shown about)) is = tt
+load_marked scan (Ok (Sharded m n)) is = tt
+load_marked scan (Ok (Removed m n)) is = tt
+
+load_exact : (r : Checked Answer) → AnswersLoad r → IsNotPartial r
+load_exact (Ok (Loaded n)) is = tt
+load_exact (Err refusal) is = tt
+load_exact (Ok Quiet) is = tt
+load_exact (Ok Done) is = tt
+load_exact (Ok (Added m n)) is = tt
+load_exact (Ok (Held m n)) is = tt
+load_exact (Ok (Found hits lent mark)) is = absurd is
+load_exact (Ok (Code code)) is = tt
+load_exact (Ok (Saved n)) is = tt
+load_exact (Ok (Shown about)) is = tt
+load_exact (Ok (Sharded m n)) is = tt
+load_exact (Ok (Removed m n)) is = tt
+
+pub reply_is : (line : List ℕ) (s new : State) (before after : Option Contents) (reply : Reply) → IsLegalState s
+    → IsAnswered (line_of line) s new before after reply → MarkedIsScan (scan_of (line_of line) s) (reply_of reply)
+reply_is line s new before after reply legal is =
+    elim (replied line s new before after reply is) [
+      | inl same ↦ subst (λ r. MarkedIsScan (scan_of (line_of line) s) r) (sym same)
+          (line_is s (known before) (line_of line) legal)
+      | inr load ↦ load_marked (scan_of (line_of line) s) (reply_of reply) load
+    ]
+
+pub reply_exact : (line : List ℕ) (s new : State) (before after : Option Contents) (reply : Reply)
+    → IsAnswered (line_of line) s new before after reply → IsWithinBound (line_of line) s
+    → IsNotPartial (reply_of reply)
+reply_exact line s new before after reply is bound =
+    elim (replied line s new before after reply is) [
+      | inl same ↦ subst IsNotPartial (sym same) (bound_line s (known before) (line_of line) bound)
+      | inr load ↦ load_exact (reply_of reply) load
+    ]

@@ -29,6 +29,8 @@ pub data ShardQuestion : Type 0 where
 
 pub data Command : Type 0 where
   New : ℕ → Word → Command
+  Load : Word → Command
+  Save : Word → Command
   Shard : Command
   Unshard : Command
   Change : IndexChange → Command

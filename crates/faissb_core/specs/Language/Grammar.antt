@@ -3,12 +3,12 @@ use Rattle.std.specs.Prelude.{ℕ, ℤ, List, [], ◌∷◌, ◌++◌, map, if�
 use Rattle.std.specs.Option.{option_map, option_and_then}
 use Rattle.std.specs.Str.{bytes_eq}
 use Rattle.id_select.specs.declared.selector.Selector.TheVariants.{Listed, AllBut, Between}
-use Rattle.faissb_core.specs.Language.Words.{Word, IdWord, words_of, word, number, id, id_and_word, switch}
+use Rattle.faissb_core.specs.Language.Words.{Word, IdWord, words_of, word, number, id, id_and_word, name, switch}
 use Rattle.faissb_core.specs.Language.Command.{IndexChange, Add, AddIds, Centroids, Nprobe, Nflip, MaxCodes, DirectMap}
 use Rattle.faissb_core.specs.Language.Command.{Remove}
 use Rattle.faissb_core.specs.Language.Command.{IndexQuestion, Search, Range, Nearest, Reconstruct, Show}
 use Rattle.faissb_core.specs.Language.Command.{ShardQuestion, ShardSearch, ShardRange}
-use Rattle.faissb_core.specs.Language.Command.{Command, New, Shard, Unshard, Change, Ask, AskShards}
+use Rattle.faissb_core.specs.Language.Command.{Command, New, Load, Save, Shard, Unshard, Change, Ask, AskShards}
 
 -- ---- forms: what the words after a name must be, and the command that they make
 
@@ -91,10 +91,12 @@ shard_questions =
     ∷ (codes "shardrange" means two number word ShardRange)
     ∷ []
 
--- commands that exchange the index or the shards
+-- commands that exchange the index, its file or the shards
 abbrev pub others : List (Entry Command)
 others =
     (codes "new" means two number word New)
+    ∷ (codes "load" means one name Load)
+    ∷ (codes "save" means one name Save)
     ∷ (codes "shard" means alone Shard)
     ∷ (codes "unshard" means alone Unshard)
     ∷ []

@@ -3,7 +3,7 @@ use Rattle.std.specs.Prelude.{ℕ, List, [], ◌∷◌, ◌==◌, Bool, true, fa
 use Rattle.std.specs.Prelude.{Option, None, Some}
 use Rattle.std.specs.List.{list_all, onto_first}
 use Rattle.faissb_core.specs.Language.Words.{words_of, is_word}
-use Rattle.faissb_core.specs.Language.Command.{Command, Shard}
+use Rattle.faissb_core.specs.Language.Command.{Command, Load, Save, Shard}
 use Rattle.faissb_core.specs.Language.Grammar.{command_of}
 
 -- The lines, each without its line feed. What stands after the last line feed is a line where it is not empty.
@@ -57,9 +57,17 @@ makes_shard line = false
 abbrev pub is_shard : List ℕ → Bool
 is_shard line = makes_shard (line_of line)
 
--- whether a line reads a file, and whether it writes one: no command does so yet
+-- whether a line reads a file, and whether it writes one
+abbrev pub reads_file : Line → Bool
+reads_file (Whole (Load name)) = true
+reads_file line = false
+
+abbrev pub writes_file : Line → Bool
+writes_file (Whole (Save name)) = true
+writes_file line = false
+
 abbrev pub is_load : List ℕ → Bool
-is_load line = false
+is_load line = reads_file (line_of line)
 
 abbrev pub is_save : List ℕ → Bool
-is_save line = false
+is_save line = writes_file (line_of line)

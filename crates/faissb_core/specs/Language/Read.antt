@@ -19,7 +19,7 @@ use Rattle.faissb_core.specs.Language.Command.{IndexChange, Add, AddIds, Centroi
 use Rattle.faissb_core.specs.Language.Command.{Remove}
 use Rattle.faissb_core.specs.Language.Command.{IndexQuestion, Search, Range, Nearest, Reconstruct, Show}
 use Rattle.faissb_core.specs.Language.Command.{ShardQuestion, ShardSearch, ShardRange}
-use Rattle.faissb_core.specs.Language.Command.{Command, New, Shard, Unshard, Change, Ask, AskShards}
+use Rattle.faissb_core.specs.Language.Command.{Command, New, Load, Save, Shard, Unshard, Change, Ask, AskShards}
 use Rattle.faissb_core.specs.Language.Grammar.{ids_in, pairs_in}
 use Rattle.faissb_core.specs.Language.Lines.{Line, TooLong, Silent, Whole, Broken}
 
@@ -52,6 +52,8 @@ said_shard_question (read_shard_question.Range radius word) = ShardRange radius 
 
 abbrev pub said : ReadCommand → Command
 said (read_command.New bits factory) = New bits factory.now
+said (read_command.Load name) = Load name.now
+said (read_command.Save name) = Save name.now
 said read_command.Shard = Shard
 said read_command.Unshard = Unshard
 said (read_command.Change change) = Change (said_change change)

@@ -2,7 +2,7 @@
 use Rattle.std.specs.Prelude.{ℕ, zero, suc, ◌+◌, ◌^◌, ℤ, pos, negsuc, ◌==◌, ◌&&◌, ◌||◌, not, Bool, true, false}
 use Rattle.std.specs.Prelude.{nat_le, nat_lt, if◌then◌else◌, List, [], ◌∷◌, length, take_while, drop, codes}
 use Rattle.std.specs.Prelude.{Option, None, Some}
-use Rattle.std.specs.Char.{is_ascii_digit, is_ascii_graphic}
+use Rattle.std.specs.Char.{is_ascii_alphanumeric, is_ascii_digit, is_ascii_graphic}
 use Rattle.std.specs.List.{list_all, slice_split}
 use Rattle.std.specs.Option.{option_map, option_and_then}
 use Rattle.std.specs.Str.{bytes_eq}
@@ -33,6 +33,13 @@ is_positive_number (b ∷ digits) = nat_lt 48 b && list_all is_ascii_digit (b �
 abbrev pub number : Word → Option ℕ
 number w = if bytes_eq w (codes "0") || is_positive_number w then Some (digits_value 10 w) else None
 
+-- a number from `least` to `most`
+abbrev pub if_within : ℕ → ℕ → ℕ → Option ℕ
+if_within least most n = if nat_le least n && nat_le n most then Some n else None
+
+abbrev pub number_within : ℕ → ℕ → Word → Option ℕ
+number_within least most w = option_and_then (if_within least most) (number w)
+
 -- an id: a number, or one but 0 behind a `-`, of 64 bits with its sign
 abbrev pub positive_id : ℕ → Option ℤ
 positive_id n = if nat_lt n (2 ^ 63) then Some (pos n) else None
@@ -58,6 +65,17 @@ id_before (b ∷ bytes) i = option_map (λ i. record { id = i; word = b ∷ byte
 -- an id and a word that is not empty, with the first `:` between them
 abbrev pub id_and_word : Word → Option IdWord
 id_and_word w = let front = take_while (λ b. not (b == 58)) w in id_before (drop (length front + 1) w) (id front)
+
+-- a name of a file: letters, digits, `.`, `_` and `-`, at most 64 of them, and not `.` first
+abbrev pub is_name_byte : ℕ → Bool
+is_name_byte b = is_ascii_alphanumeric b || b == 46 || b == 95 || b == 45
+
+abbrev pub is_name : Word → Bool
+is_name [] = false
+is_name (b ∷ bytes) = not (b == 46) && list_all is_name_byte (b ∷ bytes) && nat_le (length (b ∷ bytes)) 64
+
+abbrev pub name : Word → Option Word
+name w = if is_name w then Some w else None
 
 -- `on` or `off`
 abbrev pub switch : Word → Option Bool

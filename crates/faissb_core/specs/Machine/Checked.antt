@@ -27,6 +27,12 @@ abbrev pub given◌else◌ : {A : Type 0} → Option A → Refusal → Checked A
 given (Some x) else refusal = Ok x
 given None else refusal = Err refusal
 
+-- a value that must not be there, and the refusal that names it
+infix 5 absent◌else◌
+abbrev pub absent◌else◌ : {A : Type 0} → Option A → (A → Refusal) → Checked (Unit {0})
+absent (Some x) else refusal = Err (refusal x)
+absent None else refusal = Ok tt
+
 -- a value, or an error and the refusal that names it
 infix 5 accept◌else◌
 abbrev pub accept◌else◌ : {A E : Type 0} → Result A E → (E → Refusal) → Checked A

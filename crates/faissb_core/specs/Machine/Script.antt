@@ -1,8 +1,9 @@
 -- The plain machine: what a script is answered, and what it leaves.
-use Rattle.std.specs.Prelude.{ℕ, List, [], ◌∷◌, Bool, is_err}
+use Rattle.std.specs.Prelude.{ℕ, List, [], ◌∷◌, ◌++◌, Bool, is_err, codes}
 use Rattle.std.specs.List.{flat_map, list_any}
 use Rattle.outside.specs.Contents.{Files}
 use Rattle.faissb_core.specs.Language.Lines.{lines}
+use Rattle.faissb_core.specs.Language.Words.{Word}
 use Rattle.faissb_core.specs.Reply.Text.{reply_text}
 use Rattle.faissb_core.specs.Machine.State.{State, start}
 use Rattle.faissb_core.specs.Machine.Step.{Step, step}
@@ -40,3 +41,7 @@ script_files bytes files = files_after start files (lines bytes)
 
 abbrev pub script_refuses : List ℕ → Files → Bool
 script_refuses bytes files = has_refusal (script_steps bytes files)
+
+-- the script that `check` runs
+abbrev pub check_script : Word → List ℕ
+check_script name = codes "load " ++ name ++ codes "\nshow\n"

@@ -1,16 +1,16 @@
 -- What a line does.
 use Rattle.std.specs.Prelude.{ℕ, List, [], length, None, Some, Ok, Err}
-use Rattle.bcodes.specs.Value.{IndexValue}
+use Rattle.bcodes.specs.Value.{IndexValue, count_of}
 use Rattle.shard_set.specs.Joined.{joined_count}
-use Rattle.outside.specs.Contents.{Files}
+use Rattle.outside.specs.Contents.{Files, put}
 use Rattle.faissb_core.specs.declared.reply.refusal.Refusal.TheVariants.{Long, Line as NoCommand}
 use Rattle.faissb_core.specs.Language.Command.{IndexChange, Add, AddIds, Centroids, Nprobe, Nflip, MaxCodes, DirectMap}
 use Rattle.faissb_core.specs.Language.Command.{Remove}
 use Rattle.faissb_core.specs.Language.Command.{IndexQuestion, Search, Range, Nearest, Reconstruct, Show}
 use Rattle.faissb_core.specs.Language.Command.{ShardQuestion, ShardSearch, ShardRange}
-use Rattle.faissb_core.specs.Language.Command.{Command, New, Shard, Unshard, Change, Ask, AskShards}
+use Rattle.faissb_core.specs.Language.Command.{Command, New, Load, Save, Shard, Unshard, Change, Ask, AskShards}
 use Rattle.faissb_core.specs.Language.Lines.{Line, TooLong, Silent, Whole, Broken, line_of}
-use Rattle.faissb_core.specs.Reply.Answer.{Answer, Quiet, Done, Sharded}
+use Rattle.faissb_core.specs.Reply.Answer.{Answer, Quiet, Done, Loaded, Saved, Sharded}
 use Rattle.faissb_core.specs.Machine.Checked.{Checked, ◌>>=◌}
 use Rattle.faissb_core.specs.Machine.State.{State, Outcome, leaves, Changed, index_of}
 use Rattle.faissb_core.specs.Machine.New.{new_index}
@@ -18,6 +18,7 @@ use Rattle.faissb_core.specs.Machine.Adding.{add, add_ids, give_centroids}
 use Rattle.faissb_core.specs.Machine.Settings.{set_nprobe, set_nflip, set_max_codes, set_direct}
 use Rattle.faissb_core.specs.Machine.Queries.{search, range, nearest, reconstruct, show}
 use Rattle.faissb_core.specs.Machine.Removing.{remove}
+use Rattle.faissb_core.specs.Machine.Files.{loaded, spelled}
 use Rattle.faissb_core.specs.Machine.Shards.{with_shard, shard_search, shard_range}
 
 -- what a change makes of the index
@@ -49,6 +50,13 @@ abbrev pub command_outcome : Command → State → Files → Checked Outcome
 command_outcome (New bits text) s files = do
   v ← new_index bits text
   leaves (record s { index = Some v }) Done files
+command_outcome (Load name) s files = do
+  v ← loaded files name
+  leaves (record s { index = Some v }) (Loaded (count_of v)) files
+command_outcome (Save name) s files = do
+  v ← index_of s
+  bytes ← spelled v
+  leaves s (Saved (length bytes)) (put files name bytes)
 command_outcome Shard s files = do
   v ← index_of s
   vs ← with_shard s.shards v

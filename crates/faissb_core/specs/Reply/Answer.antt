@@ -7,8 +7,8 @@ use Rattle.faissb_core.specs.declared.reply.reply.Reply.{Reply}
 use Rattle.faissb_core.specs.declared.reply.reply.Reply.TheVariants as reply
 
 -- Added has the codes added and the count then; Held the centroids held and the lists. Found has the hits, the number
--- of codes looked at, and whether the answer is marked as exact. Sharded has the shards and their codes, Removed the
--- codes that went and the count then.
+-- of codes looked at, and whether the answer is marked as exact. Saved has the bytes of the file, Loaded the count.
+-- Sharded has the shards and their codes, Removed the codes that went and the count then.
 pub data Answer : Type 0 where
   Quiet : Answer
   Done : Answer
@@ -16,6 +16,8 @@ pub data Answer : Type 0 where
   Held : ℕ → ℕ → Answer
   Found : List Hit → ℕ → Bool → Answer
   Code : List ℕ → Answer
+  Saved : ℕ → Answer
+  Loaded : ℕ → Answer
   Shown : About → Answer
   Sharded : ℕ → ℕ → Answer
   Removed : ℕ → ℕ → Answer
@@ -28,6 +30,8 @@ reply_of (reply.Added m n) = Ok (Added m n)
 reply_of (reply.Held m n) = Ok (Held m n)
 reply_of (reply.Found hits lent exact) = Ok (Found hits.items lent exact)
 reply_of (reply.Code list) = Ok (Code (slice_index_or list.codes 0 []))
+reply_of (reply.Saved n) = Ok (Saved n)
+reply_of (reply.Loaded n) = Ok (Loaded n)
 reply_of (reply.Shown about) = Ok (Shown about)
 reply_of (reply.Sharded m n) = Ok (Sharded m n)
 reply_of (reply.Removed m n) = Ok (Removed m n)

@@ -9,7 +9,7 @@ use Rattle.factory_text.specs.declared.kind.Kind.TheVariants as kind
 use Rattle.factory_text.specs.Printing.{spec_text}
 use Rattle.any_index.specs.declared.about.About.{About}
 use Rattle.faissb_core.specs.declared.reply.refusal.Refusal.{Refusal}
-use Rattle.faissb_core.specs.Reply.Answer.{Answer, Quiet, Done, Added, Held, Found, Code}
+use Rattle.faissb_core.specs.Reply.Answer.{Answer, Quiet, Done, Added, Held, Found, Code, Saved, Loaded}
 use Rattle.faissb_core.specs.Reply.Answer.{Shown, Sharded, Removed}
 use Rattle.faissb_core.specs.Reply.Refusals.{refusal_words}
 
@@ -96,6 +96,8 @@ answer_text Done = codes "ok\n"
 answer_text (Added m n) = text_line (codes "added" ∷ decimal m ∷ codes "total" ∷ decimal n ∷ [])
 answer_text (Held m n) = text_line (codes "centroids" ∷ decimal m ∷ codes "of" ∷ decimal n ∷ [])
 answer_text (Found hits lent exact) = found_text hits lent exact
+answer_text (Saved n) = number_line (codes "saved") n
+answer_text (Loaded n) = number_line (codes "loaded") n
 answer_text (Shown a) = shown_text a
 answer_text (Sharded m n) = text_line (codes "shards" ∷ decimal m ∷ codes "total" ∷ decimal n ∷ [])
 answer_text (Removed m n) = text_line (codes "removed" ∷ decimal m ∷ codes "total" ∷ decimal n ∷ [])

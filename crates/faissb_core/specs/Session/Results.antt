@@ -2,13 +2,15 @@
 use Rattle.std.specs.Prelude.{◌≡◌, Result, Ok, Err}
 use Rattle.bcodes.specs.Value.{IndexValue}
 use Rattle.outside.specs.Contents.{Files}
+use Rattle.outside.specs.declared.trouble.Trouble.{Trouble}
+use Rattle.outside.specs.declared.trouble.Trouble.TheVariants as trouble
 use Rattle.bcodes.specs.declared.direct_error.DirectError.{DirectError}
 use Rattle.bcodes.specs.declared.direct_error.DirectError.TheVariants as direct
 use Rattle.faissb_core.specs.declared.reply.refusal.Refusal.TheVariants.{Sequential}
 use Rattle.faissb_core.specs.declared.reply.reply.Reply.{Reply}
 use Rattle.faissb_core.specs.declared.reply.reply.Reply.TheVariants.{Refused as RefusedReply}
 use Rattle.faissb_core.specs.declared.session.stop.Stop.{Stop}
-use Rattle.faissb_core.specs.declared.session.stop.Stop.TheVariants.{Memory as NoMemory}
+use Rattle.faissb_core.specs.declared.session.stop.Stop.TheVariants.{ShelfFailed, Memory as NoMemory}
 use Rattle.faissb_core.specs.declared.session.halt.Halt.{Halt}
 use Rattle.faissb_core.specs.declared.session.halt.Halt.TheVariants.{Refused, Memory}
 use Rattle.faissb_core.specs.Reply.Answer.{Answer, reply_of}
@@ -19,6 +21,11 @@ use Rattle.faissb_core.specs.Machine.State.{State, Outcome, leaves, Changed, cha
 abbrev pub halt_of_direct : DirectError → Halt
 halt_of_direct direct.NotSequential = Refused Sequential
 halt_of_direct direct.Memory = Memory
+
+-- why a call of the shelf did nothing
+abbrev pub stop_of : Trouble → Stop
+stop_of trouble.Failed = ShelfFailed
+stop_of trouble.Memory = NoMemory
 
 -- the checks refuse in this way, unless memory ran out
 abbrev pub Refuses : {A : Type 0} → Checked A → Halt → Type 0
@@ -65,9 +72,3 @@ abbrev pub settled : Result Reply Halt → Result Reply Stop
 settled (Ok reply) = Ok reply
 settled (Err (Refused refusal)) = Ok (RefusedReply refusal)
 settled (Err Memory) = Err NoMemory
-
--- memory runs out only where this holds
-abbrev pub MemoryOnlyIf : Type 0 → Result Reply Halt → Type 0
-MemoryOnlyIf P (Ok reply) = Unit {0}
-MemoryOnlyIf P (Err (Refused refusal)) = Unit {0}
-MemoryOnlyIf P (Err Memory) = P

@@ -62,6 +62,10 @@ pub enum ShardQuestion<'l> {
 pub enum Command<'l> {
     /// An index of so many bits, as a factory text says.
     New(u64, &'l [u8]),
+    /// The index of a file of this name.
+    Load(&'l str),
+    /// The index is written to a file of this name.
+    Save(&'l str),
     /// The index becomes the last shard.
     Shard,
     /// All shards are dropped.

@@ -3,12 +3,13 @@ ghost use Rattle.std.specs.Prelude.{◌≡◌, ℕ, ℤ, List, [], ◌∷◌};
 ghost use Rattle.std.specs.Option.{option_map};
 ghost use Rattle.std.specs.Str.{bytes_eq};
 ghost use Rattle.id_select.specs.declared.selector.Selector.TheVariants.{Listed, AllBut, Between};
-ghost use Rattle.faissb_core.specs.Language.Words.{id as id_of, id_and_word, number as number_of};
+ghost use Rattle.faissb_core.specs.Language.Words.{id as id_of, id_and_word, name as name_of};
+ghost use Rattle.faissb_core.specs.Language.Words.{number as number_of};
 ghost use Rattle.faissb_core.specs.Language.Words.{switch as switch_of, word, words_of};
 ghost use Rattle.faissb_core.specs.Language.Command.{Add, AddIds, Centroids, DirectMap, MaxCodes};
 ghost use Rattle.faissb_core.specs.Language.Command.{Nflip, Nprobe, Range, Reconstruct, Remove};
-ghost use Rattle.faissb_core.specs.Language.Command.{Nearest, New, Search, Shard, ShardRange};
-ghost use Rattle.faissb_core.specs.Language.Command.{ShardSearch, Show, Unshard};
+ghost use Rattle.faissb_core.specs.Language.Command.{Load, Nearest, New, Save, Search, Shard};
+ghost use Rattle.faissb_core.specs.Language.Command.{ShardRange, ShardSearch, Show, Unshard};
 ghost use Rattle.faissb_core.specs.Language.Command.{IndexChange as SaidChange};
 ghost use Rattle.faissb_core.specs.Language.Command.{IndexQuestion as SaidQuestion};
 ghost use Rattle.faissb_core.specs.Language.Command.{ShardQuestion as SaidShardQuestion};
@@ -23,6 +24,7 @@ use super::command::{Command, IndexChange, IndexQuestion, Selection, ShardQuesti
 use super::id::id;
 use super::id_words::IdWords;
 use super::ids::Ids;
+use super::name::file_name;
 use super::number::number;
 use super::words::first_word;
 
@@ -217,6 +219,36 @@ fn new_command(words: &[u8]) -> Option<Command<'_>>
     }
 }
 
+// The name of a file, and nothing else.
+#[tactic(auto, using(crate::proofs::LanguageLemmas::GrammarLemmas::name_and_more))]
+fn one_name(words: &[u8]) -> Option<&str>
+    ensures { (command : List ℕ → SaidCommand) → one name_of command (words_of words.now)
+        ≡ option_map (λ n. command n.now) result }
+{
+    match first_word(words) {
+        (word, None) => file_name(word),
+        (_, Some(_)) => None,
+    }
+}
+
+fn load_command(words: &[u8]) -> Option<Command<'_>>
+    ensures { option_map said result ≡ one name_of Load (words_of words.now) }
+{
+    match one_name(words) {
+        Some(name) => Some(Command::Load(name)),
+        None => None,
+    }
+}
+
+fn save_command(words: &[u8]) -> Option<Command<'_>>
+    ensures { option_map said result ≡ one name_of Save (words_of words.now) }
+{
+    match one_name(words) {
+        Some(name) => Some(Command::Save(name)),
+        None => None,
+    }
+}
+
 fn is_named(name: &[u8], text: &[u8]) -> bool
     ensures { result ≡ bytes_eq name.now text.now }
 {
@@ -290,6 +322,12 @@ fn command_named<'l>(name: &[u8], words: &'l [u8]) -> Option<Command<'l>>
 {
     if is_named(name, b"new") {
         return new_command(words);
+    }
+    if is_named(name, b"load") {
+        return load_command(words);
+    }
+    if is_named(name, b"save") {
+        return save_command(words);
     }
     if let Some(change) = change_named(name, words) {
         return Some(Command::Change(change));

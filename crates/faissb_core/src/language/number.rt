@@ -1,9 +1,9 @@
 // The number that a word writes.
-ghost use Rattle.std.specs.Prelude.{◌≡◌, ◌≤◌, length, true};
+ghost use Rattle.std.specs.Prelude.{◌≡◌, ◌≤◌, IfSome, length, true};
 ghost use Rattle.std.specs.Char.{is_ascii_digit};
 ghost use Rattle.std.specs.List.{list_all};
 ghost use Rattle.std.specs.Str.Parse.{digits_value};
-ghost use Rattle.faissb_core.specs.Language.Words.{is_positive_number, number};
+ghost use Rattle.faissb_core.specs.Language.Words.{is_positive_number, number, number_within};
 
 fn are_digits(bytes: &[u8]) -> bool
     ensures { result ≡ list_all is_ascii_digit bytes.now }
@@ -44,4 +44,16 @@ pub fn number(word: &[u8]) -> Option<u64>
     } else {
         None
     }
+}
+
+// The number that a word writes, where it is in a range.
+pub fn number_within(least: u64, most: u64, word: &[u8]) -> Option<u64>
+    ensures number { result ≡ number_within least most word.now }
+    ensures most { IfSome result (λ n. n ≤ most) }
+{
+    let n = number(word)?;
+    if n < least || n > most {
+        return None;
+    }
+    Some(n)
 }

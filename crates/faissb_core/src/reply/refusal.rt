@@ -1,4 +1,6 @@
 use crate::FactoryWord;
+use file_parts::FileFault;
+use multi_hash::Wide;
 
 /// Why a command is refused: by the first of these that applies, in this order.
 #[derive(Clone, Copy, Debug, PartialEq, Eq)]
@@ -27,6 +29,12 @@ pub enum Refusal {
     Untrained,
     /// The index would grow past the load limit.
     Load,
+    /// There is no file of the name.
+    NoFile,
+    /// The file is not one of an index, and this is its first fault.
+    File(FileFault),
+    /// A bucket of a MultiHash holds all codes, and the file has too few bits for their number.
+    BucketBits(Wide),
     /// There is no direct map.
     NoDirect,
     /// The labels are not the numbers below their count, each once.

@@ -19,6 +19,10 @@ pub enum Reply {
     Found(Hits, u64, bool),
     /// One code.
     Code(Codes),
+    /// How many bytes the file has.
+    Saved(u64),
+    /// How many codes were loaded.
+    Loaded(u64),
     /// What the index is and how it is set.
     Shown(About),
     /// How many shards there are, and how many codes they have together.

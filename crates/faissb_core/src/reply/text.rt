@@ -1,18 +1,17 @@
 // The text of a reply.
 ghost use Rattle.std.specs.Prelude.{◌≡◌, ◌++◌, [], length, slice_index_or, string_bytes};
-ghost use Rattle.std.specs.Prelude.{Ok, Err, IfOk, IsErrOf, IsOk, OnOk};
+ghost use Rattle.std.specs.Prelude.{Ok, IfOk, IsErrOf, IsOk, OnOk};
 ghost use Rattle.std.specs.List.{flat_map};
 ghost use Rattle.std.specs.Io.KnownBytes.{Appends};
 ghost use Rattle.outside.specs.Causes.{HasCause};
-ghost use Rattle.faissb_core.specs.Reply.Answer.{Added, Code, Held, Quiet, Removed, Sharded, Shown};
-ghost use Rattle.faissb_core.specs.Reply.Answer.{reply_of};
+ghost use Rattle.faissb_core.specs.Reply.Answer.{Added, Code, Held, Loaded, Quiet, Removed, Saved};
+ghost use Rattle.faissb_core.specs.Reply.Answer.{Sharded, Shown, reply_of};
 ghost use Rattle.faissb_core.specs.Reply.Sent.{AppendsFront, SendsPieces};
 ghost use Rattle.faissb_core.specs.Reply.Text.{answer_text, count_text, found_text};
 ghost use Rattle.faissb_core.specs.Reply.Text.{hit_text, mark_word, reply_text};
 
-use super::factory_word::FactoryWord;
 use super::outgoing::send_pieces;
-use super::refusal::Refusal;
+use super::refused::refused_line;
 use super::reply::Reply;
 use super::send::send_piece;
 use super::shown::shown;
@@ -22,32 +21,6 @@ use bcodes::{Codes, Hit};
 use itoa::{Buffer, Integer};
 use outside::{Sink, Trouble};
 use std::alloc::{AllocError, Global};
-
-fn refused_line(refusal: Refusal) -> &'static str
-    ensures { result.now ≡ reply_text (Err refusal) }
-{
-    match refusal {
-        Refusal::Long => "refused long\n",
-        Refusal::Line => "refused line\n",
-        Refusal::NoIndex => "refused none\n",
-        Refusal::Dim => "refused dim\n",
-        Refusal::Factory(FactoryWord::Unknown) => "refused factory unknown\n",
-        Refusal::Factory(FactoryWord::Number) => "refused factory number\n",
-        Refusal::Factory(FactoryWord::LeftOut) => "refused factory leftout\n",
-        Refusal::Factory(FactoryWord::Nested) => "refused factory nested\n",
-        Refusal::Factory(FactoryWord::Misfit) => "refused factory misfit\n",
-        Refusal::Code => "refused code\n",
-        Refusal::Ids => "refused ids\n",
-        Refusal::Kind => "refused kind\n",
-        Refusal::Value => "refused value\n",
-        Refusal::Full => "refused full\n",
-        Refusal::Untrained => "refused untrained\n",
-        Refusal::Load => "refused load\n",
-        Refusal::NoDirect => "refused nodirect\n",
-        Refusal::Sequential => "refused sequential\n",
-        Refusal::Mismatch => "refused mismatch\n",
-    }
-}
 
 fn added_line(alloc: Global, added: u64, total: u64) -> Result<String, AllocError>
     ensures { IfOk result (λ line. string_bytes line ≡ answer_text (Added added total)) }
@@ -70,6 +43,20 @@ fn removed_line(alloc: Global, removed: u64, total: u64) -> Result<String, Alloc
     Ok(line)
 }
 
+fn saved_line(alloc: Global, len: u64) -> Result<String, AllocError>
+    ensures { IfOk result (λ line. string_bytes line ≡ answer_text (Saved len)) }
+{
+    let line = format!(in alloc; "saved {len}\n")?;
+    Ok(line)
+}
+
+fn loaded_line(alloc: Global, total: u64) -> Result<String, AllocError>
+    ensures { IfOk result (λ line. string_bytes line ≡ answer_text (Loaded total)) }
+{
+    let line = format!(in alloc; "loaded {total}\n")?;
+    Ok(line)
+}
+
 fn held_line(alloc: Global, held: u32, lists: u32) -> Result<String, AllocError>
     ensures { IfOk result (λ line. string_bytes line ≡ answer_text (Held held lists)) }
 {
@@ -81,15 +68,6 @@ fn mark(exact: bool) -> &'static str
     ensures { result.now ≡ mark_word exact }
 {
     if exact { "exact" } else { "partial" }
-}
-
-// The first line of a reply with hits.
-fn count_line(alloc: Global, count: usize, lent: u64, exact: bool) -> Result<String, AllocError>
-    ensures { IfOk result (λ line. string_bytes line ≡ count_text count lent exact) }
-{
-    let mark = mark(exact);
-    let line = format!(in alloc; "hits {count} looked {lent} {mark}\n")?;
-    Ok(line)
 }
 
 pub fn push_number<I: Integer>(held: &mut Vec<u8>, number: I) -> Result<(), AllocError>
@@ -109,6 +87,26 @@ fn push_hit(held: &mut Vec<u8>, hit: Hit) -> Result<(), AllocError>
     push_number(held, hit.distance)?;
     held.push(b'\n')?;
     Ok(())
+}
+
+// The first line of a reply with hits.
+fn push_count(held: &mut Vec<u8>, count: usize, lent: u64, exact: bool) -> Result<(), AllocError>
+    ensures { OnOk result (held.new.items ≡ held.old.items ++ count_text count lent exact) }
+{
+    held.extend_from_slice(b"hits ")?;
+    push_number(held, count)?;
+    held.extend_from_slice(b" looked ")?;
+    push_number(held, lent)?;
+    held.push(b' ')?;
+    held.extend_from_slice(mark(exact).as_bytes())?;
+    held.push(b'\n')?;
+    Ok(())
+}
+
+// The bytes that a reply with so many hits takes at most, or two pieces if that is less: a hit has
+// at most 32 bytes, and the first line 64.
+fn room_for(hits: usize) -> usize {
+    hits.min(PIECE / 16) * 32 + 64
 }
 
 // A line for each hit, behind the text that is held.
@@ -149,9 +147,8 @@ fn send_found<K: Sink>(
     ensures memory_is_no_fault { IsErrOf result Trouble.Memory
         → K.faults out.new ≡ K.faults out.old }
 {
-    let first = count_line(alloc, hits.len(), lent, exact)?;
-    let mut held = Vec::with_capacity(alloc, 2 * PIECE)?;
-    held.extend_from_slice(first.as_bytes())?;
+    let mut held = Vec::with_capacity(alloc, room_for(hits.len()))?;
+    push_count(&mut held, hits.len(), lent, exact)?;
     send_hits(&mut held, hits, out)?;
     send_piece(out, &held)?;
     Ok(())
@@ -261,6 +258,14 @@ pub fn write_reply<K: Sink>(alloc: Global, reply: &Reply, out: &mut K) -> Result
         }
         Reply::Found(hits, lent, exact) => send_found(alloc, hits.as_slice(), *lent, *exact, out)?,
         Reply::Code(codes) => send_code(alloc, first_code(codes), out)?,
+        Reply::Saved(len) => {
+            let line = saved_line(alloc, *len)?;
+            send_piece(out, line.as_bytes())?;
+        }
+        Reply::Loaded(total) => {
+            let line = loaded_line(alloc, *total)?;
+            send_piece(out, line.as_bytes())?;
+        }
         Reply::Shown(about) => send_shown(alloc, about, out)?,
         Reply::Sharded(shards, total) => {
             let line = sharded_line(alloc, *shards, *total)?;
@@ -270,7 +275,10 @@ pub fn write_reply<K: Sink>(alloc: Global, reply: &Reply, out: &mut K) -> Result
             let line = removed_line(alloc, *removed, *total)?;
             send_piece(out, line.as_bytes())?;
         }
-        Reply::Refused(refusal) => send_piece(out, refused_line(*refusal).as_bytes())?,
+        Reply::Refused(refusal) => {
+            let line = refused_line(alloc, *refusal)?;
+            send_piece(out, line.as_str().as_bytes())?;
+        }
     }
     Ok(())
 }

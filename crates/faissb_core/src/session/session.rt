@@ -1,18 +1,21 @@
-ghost use Rattle.std.specs.Prelude.{◌≡◌, ◌⊎◌, ◌||◌, false, IsTrue, is_err, is_some};
+ghost use Rattle.std.specs.Prelude.{◌≡◌, ◌⊎◌, ◌||◌, false, IsTrue, is_err, is_some, Ok};
 ghost use Rattle.std.specs.Prelude.{IfErr, IfOk, IsErrOf, OnErr, OnOk};
-ghost use Rattle.outside.specs.Causes.{HasCause};
+ghost use Rattle.outside.specs.Causes.{CountsFailure, HasCause};
 ghost use Rattle.outside.specs.Contents.{Files, HasFiles, Fits};
+ghost use Rattle.faissb_core.specs.Language.Command.{Ask, AskShards, Change, New, Shard, Unshard};
+ghost use Rattle.faissb_core.specs.Language.Lines.{Whole};
 ghost use Rattle.faissb_core.specs.Language.Read.{said, said_change, said_question};
 ghost use Rattle.faissb_core.specs.Language.Read.{said_shard_question, line_said};
 ghost use Rattle.faissb_core.specs.Machine.Legal.{IsLegalState};
 ghost use Rattle.faissb_core.specs.Machine.Step.{ask as answer_of, change as change_of};
 ghost use Rattle.faissb_core.specs.Machine.Step.{ask_shards as shards_answer};
+ghost use Rattle.faissb_core.specs.Machine.Step.{command_outcome};
+ghost use Rattle.faissb_core.specs.Session.Applied.{Applies};
 ghost use Rattle.faissb_core.specs.Session.Followed.{state_of};
-ghost use Rattle.faissb_core.specs.Machine.Step.{command_outcome, line_outcome};
 ghost use Rattle.faissb_core.specs.Session.Results.{Answers, Changes, Leaves, settled};
-ghost use Rattle.faissb_core.specs.Session.Results.{MemoryOnlyIf};
 
 use super::adding::{add, add_ids, give_centroids};
+use super::files::{load, save};
 use super::halt::Halt;
 use super::new::new_index;
 use super::queries::{nearest, range, reconstruct, search, show};
@@ -119,7 +122,7 @@ fn settle(done: Result<Reply, Halt>) -> Result<Reply, Stop>
 }
 
 impl Session {
-    ghost use Rattle.faissb_core.specs.Language.Lines.{has_command, is_command, line_of};
+    ghost use Rattle.faissb_core.specs.Language.Lines.{is_command, line_of};
     ghost use Rattle.faissb_core.specs.Language.Lines.{is_load, is_save};
     ghost use Rattle.faissb_core.specs.Reply.Answer.{reply_of};
     ghost use Rattle.faissb_core.specs.Machine.State.{start};
@@ -138,50 +141,108 @@ impl Session {
         }
     }
 
-    // The command of a line.
-    fn carry_out(&mut self, alloc: Global, command: Command<'_>) -> Result<Reply, Halt>
+    // The command `new`.
+    fn renew(&mut self, alloc: Global, bits: u64, factory: &[u8]) -> Result<Reply, Halt>
         ensures ok { (files : Files) →
-            Leaves (command_outcome (said command.entry) self.old files) self.new files result }
+            Leaves (command_outcome (New bits factory.now) self.old files) self.new files result }
         ensures err { OnErr result (self.new ≡ self.old) }
     {
+        self.index = Some(new_index(alloc, bits, factory)?);
+        Ok(Reply::Done)
+    }
+
+    fn change(&mut self, alloc: Global, asked: IndexChange<'_>) -> Result<Reply, Halt>
+        ensures ok { (files : Files) →
+            Leaves (command_outcome (Change (said_change asked.entry)) self.old files)
+            self.new files result }
+        ensures err { OnErr result (self.new ≡ self.old) }
+    {
+        let Some(index) = &mut self.index else {
+            return Err(Refusal::NoIndex.into());
+        };
+        change(alloc, index, asked)
+    }
+
+    fn ask(&self, alloc: Global, question: IndexQuestion<'_>) -> Result<Reply, Halt>
+        ensures { (files : Files) →
+            Leaves (command_outcome (Ask (said_question question.entry)) self.now files)
+            self.now files result }
+    {
+        let Some(index) = &self.index else {
+            return Err(Refusal::NoIndex.into());
+        };
+        ask(alloc, index, question)
+    }
+
+    fn ask_shards(&self, alloc: Global, question: ShardQuestion<'_>) -> Result<Reply, Halt>
+        ensures { (files : Files) →
+            Leaves (command_outcome (AskShards (said_shard_question question.entry))
+            self.now files) self.now files result }
+    {
+        ask_shards(alloc, &self.shards, question)
+    }
+
+    // The command `shard`.
+    fn shard(&mut self, alloc: Global) -> Result<Reply, Halt>
+        ensures ok { (files : Files) →
+            Leaves (command_outcome Shard self.old files) self.new files result }
+        ensures err { OnErr result (self.new ≡ self.old) }
+    {
+        self.shards.take(alloc, &mut self.index)
+    }
+
+    // The command `unshard`.
+    fn unshard(&mut self) -> Reply
+        ensures { (files : Files) →
+            Leaves (command_outcome Unshard self.old files) self.new files (Ok result) }
+    {
+        self.shards = ShardGroup::new();
+        Reply::Done
+    }
+
+    // The command of a line.
+    fn carry_out<H: Shelf>(
+        &mut self,
+        alloc: Global,
+        command: Command<'_>,
+        shelf: &mut H,
+    ) -> Result<Reply, Stop>
+        ensures applies { Applies (Whole (said command.entry)) self.old self.new
+            (H.contents shelf.old) (H.contents shelf.new) result }
+        ensures tells { is_some (H.contents shelf.new) ≡ is_some (H.contents shelf.old) }
+        ensures counts { CountsFailure (H.faults shelf.old) (H.faults shelf.new)
+            (IsErrOf result Stop.ShelfFailed) }
+    {
         match command {
-            Command::New(bits, factory) => {
-                self.index = Some(new_index(alloc, bits, factory)?);
-                Ok(Reply::Done)
-            }
-            Command::Shard => self.shards.take(alloc, &mut self.index),
-            Command::Unshard => {
-                self.shards = ShardGroup::new();
-                Ok(Reply::Done)
-            }
-            Command::Change(asked) => {
-                let Some(index) = &mut self.index else {
-                    return Err(Refusal::NoIndex.into());
-                };
-                change(alloc, index, asked)
-            }
-            Command::Ask(question) => {
-                let Some(index) = &self.index else {
-                    return Err(Refusal::NoIndex.into());
-                };
-                ask(alloc, index, question)
-            }
-            Command::AskShards(question) => ask_shards(alloc, &self.shards, question),
+            Command::New(bits, factory) => settle(self.renew(alloc, bits, factory)),
+            Command::Load(name) => load(alloc, &mut self.index, name, shelf),
+            Command::Save(name) => save(alloc, &self.index, name, shelf),
+            Command::Shard => settle(self.shard(alloc)),
+            Command::Unshard => Ok(self.unshard()),
+            Command::Change(asked) => settle(self.change(alloc, asked)),
+            Command::Ask(question) => settle(self.ask(alloc, question)),
+            Command::AskShards(question) => settle(self.ask_shards(alloc, question)),
         }
     }
 
     // A line that was read.
-    fn obey(&mut self, alloc: Global, line: Line<'_>) -> Result<Reply, Halt>
-        ensures ok { (files : Files) →
-            Leaves (line_outcome (line_said line.entry) self.old files) self.new files result }
-        ensures err { OnErr result (self.new ≡ self.old) }
-        ensures memory { MemoryOnlyIf (IsTrue (has_command (line_said line.entry))) result }
+    fn obey<H: Shelf>(
+        &mut self,
+        alloc: Global,
+        line: Line<'_>,
+        shelf: &mut H,
+    ) -> Result<Reply, Stop>
+        ensures applies { Applies (line_said line.entry) self.old self.new
+            (H.contents shelf.old) (H.contents shelf.new) result }
+        ensures tells { is_some (H.contents shelf.new) ≡ is_some (H.contents shelf.old) }
+        ensures counts { CountsFailure (H.faults shelf.old) (H.faults shelf.new)
+            (IsErrOf result Stop.ShelfFailed) }
     {
         match line {
-            Line::TooLong => Err(Refusal::Long.into()),
+            Line::TooLong => Ok(Reply::Refused(Refusal::Long)),
             Line::Silent => Ok(Reply::Silent),
-            Line::Whole(command) => self.carry_out(alloc, command),
-            Line::Broken => Err(Refusal::Line.into()),
+            Line::Whole(command) => self.carry_out(alloc, command, shelf),
+            Line::Broken => Ok(Reply::Refused(Refusal::Line)),
         }
     }
 
@@ -235,7 +296,6 @@ impl Session {
             → H.faults shelf.new ≡ H.faults shelf.old }
     {
         know_legal(&self.index, &self.shards);
-        let reply = settle(self.obey(alloc, read_line(line)))?;
-        Ok(reply)
+        self.obey(alloc, read_line(line), shelf)
     }
 }

@@ -1,6 +1,7 @@
 ghost use Rattle.std.specs.Prelude.{◌≡◌};
 ghost use Rattle.faissb_core.specs.declared.session.stop.Stop.TheVariants.{Memory};
 
+use outside::Trouble;
 use std::alloc::AllocError;
 use thiserror::Error;
 
@@ -18,5 +19,18 @@ impl From<AllocError> for Stop {
 
     fn from(_: AllocError) -> Stop {
         Stop::Memory
+    }
+}
+
+impl From<Trouble> for Stop {
+    ghost use Rattle.faissb_core.specs.Session.Results.{stop_of};
+
+    ghost from_gives = { λ trouble stop. stop ≡ stop_of trouble };
+
+    fn from(trouble: Trouble) -> Stop {
+        match trouble {
+            Trouble::Failed => Stop::ShelfFailed,
+            Trouble::Memory => Stop::Memory,
+        }
     }
 }

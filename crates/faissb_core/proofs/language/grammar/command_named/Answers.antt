@@ -23,4 +23,5 @@ returns-in-None c =
     let no_change : named changes (c.args.name.now ∷ words_of c.args.words.now) ≡ None = search rules in
     let no_question : named questions (c.args.name.now ∷ words_of c.args.words.now) ≡ None = search rules in
     sym (neither_is c.args.name.now c.args.words.now (sym c.is_named.ensures ∙ c.if-is_named.false)
+    (sym c.is_named-2.ensures ∙ c.if-is_named-2.false) (sym c.is_named-3.ensures ∙ c.if-is_named-3.false)
     no_change no_question (sym c.in-None.ensures))
