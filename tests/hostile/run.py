@@ -276,9 +276,9 @@ def files_in_the_way(folder):
     # An old file stays whole while a new one is written.
     big = ("new 256 BFlat\n" + adding(30_000, 32, 5) + "save f\n").encode()
     faissb(save, cwd=folder)
-    status = shell("ulimit -f 100; printf 'new 256 BFlat\\n' >big; cat >>big; true", folder)
     with open(os.path.join(folder, "big"), "wb") as file:
         file.write(big)
+    # Where the signal is not ignored, the system ends the program by it.
     status = shell("ulimit -f 100; trap '' XFSZ; $P script <big >/dev/null", folder)
     report("a save past the limit on the size of a file", status, {5})
     with open(os.path.join(folder, "f"), "rb") as file:
