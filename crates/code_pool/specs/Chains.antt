@@ -91,6 +91,14 @@ pub record IsNext (b : BlockChains) (next : List ℕ) : Type 0 where
   pub block : (i : ℕ) → (chain_at b (i + 1)).len / 4 < length (chain_at b (i + 1)).blocks
       → slice_index next i ≡ slice_index (chain_at b (i + 1)).blocks ((chain_at b (i + 1)).len / 4)
 
+-- the first n blocks of a list are those from a number on, in their order, and the block behind them is not
+-- the next one
+pub record IsFront (blocks : List ℕ) (first n : ℕ) : Type 0 where
+  pub some : 0 < length blocks → 0 < n
+  pub within : n ≤ length blocks
+  pub each : (k : ℕ) → k < n → slice_index blocks k ≡ first + k
+  pub ends : n < length blocks → slice_index blocks n ≢ first + n
+
 -- n rows of a list from `from` on that stand side by side from a place on
 pub record IsStretch (blocks : List ℕ) (from start n : ℕ) : Type 0 where
   pub each : (k : ℕ) → k < n → place_of blocks (from + k) ≡ start + k

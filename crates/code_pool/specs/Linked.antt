@@ -1,8 +1,9 @@
 -- What blocks and their chains keep inside.
 use Rattle.std.specs.Prelude.{◌≡◌, ℕ, zero, suc, ◌+◌, ◌-◌, ◌^◌, ◌<◌, ◌≤◌, List, [], ◌∷◌, ◌++◌, length, map}
 use Rattle.std.specs.Prelude.{slice_index, slice_index_or}
-use Rattle.code_pool.specs.Chains.{Held, IsNext}
+use Rattle.code_pool.specs.Chains.{Held, BlockChains, IsFront, IsNext, chain_at}
 use Rattle.code_pool.specs.declared.chain.Chain.{Chain}
+use Rattle.code_pool.specs.declared.front.Front.{Front}
 
 -- n blocks, of which each but the last is the one before the next
 abbrev pub blocks_to : List ℕ → ℕ → ℕ → List ℕ
@@ -63,7 +64,23 @@ pub record IsBlocks (before jump place : List ℕ) (ends : List Chain) : Type 0 
   pub lists : length ends ≤ 2 ^ 31 + 1
   pub total : blocks_in ends ≡ length before
 
--- The same, with the block of the next row of each list. The first chain is that of the free blocks.
-pub record IsIndexed (before jump place : List ℕ) (ends : List Chain) (nexts : List ℕ) : Type 0 where
+-- the front of an empty list
+abbrev pub no_front : Front
+no_front = record { first = 0; blocks = 0 }
+
+-- the front of the list of a number
+abbrev pub front_at : List Front → ℕ → Front
+front_at fronts i = slice_index_or fronts i no_front
+
+-- the fronts of the lists
+pub record IsFronts (b : BlockChains) (fronts : List Front) : Type 0 where
+  pub lists : length fronts + 1 ≡ length b.chains
+  pub each : (i : ℕ) → IsFront (chain_at b (i + 1)).blocks (front_at fronts i).first (front_at fronts i).blocks
+
+-- The same, with the block of the next row of each list and its front. The first chain is that of the free
+-- blocks.
+pub record IsIndexed (before jump place : List ℕ) (ends : List Chain) (nexts : List ℕ) (fronts : List Front)
+    : Type 0 where
   pub blocks : IsBlocks before jump place ends
   pub next : IsNext (record { all = length before; chains = map (held_by before) ends }) nexts
+  pub front : IsFronts (record { all = length before; chains = map (held_by before) ends }) fronts

@@ -1,7 +1,8 @@
 ghost use Rattle.std.specs.Prelude.{◌≡◌, ◌+◌, ◌-◌, ◌*◌, ◌/◌, ◌<◌, ◌≤◌, ◌^◌, ◌∷◌, ◌++◌, [], length};
 ghost use Rattle.std.specs.Prelude.{slice_index, IsOk, IsTrue, OnOk, OnErr, sum_by, ◌↔◌, ◌⊎◌};
 ghost use Rattle.code_pool.specs.Lists.{run_rows};
-ghost use Rattle.code_pool.specs.Chains.{GoesOn, IsAhead, IsApart, IsLongest, IsStretch, IsTied};
+ghost use Rattle.code_pool.specs.Chains.{GoesOn, IsAhead, IsApart, IsFront, IsLongest, IsStretch};
+ghost use Rattle.code_pool.specs.Chains.{IsTied};
 ghost use Rattle.code_pool.specs.Chains.{chain_at};
 ghost use Rattle.code_pool.specs.Chains.{count_of, empty_chain, list_of, place_of, with_len};
 ghost use Rattle.code_pool.specs.Chains.{with_moved, with_new};
@@ -9,6 +10,7 @@ ghost use Rattle.code_pool.specs.Chains.{with_moved, with_new};
 use crate::ahead::{AHEAD_BLOCKS, Ahead};
 use crate::beside::Beside;
 use crate::chain::Chain;
+use crate::front::Front;
 use crate::run::RUN_ROWS;
 use crate::stretch::Stretch;
 use crate::tables::Tables;
@@ -23,14 +25,15 @@ pub const MOST_BLOCKS: usize = 4_294_967_294;
 
 /// Blocks by their numbers, each of one chain: that of a list, or the chain of the free blocks.
 ///
-/// Clauses see each chain as the numbers of its blocks. A list with room for a row also keeps the
-/// block where its next row goes.
+/// Clauses see each chain as the numbers of its blocks. A list also keeps its front, and where it
+/// has room for a row the block where its next row goes.
 #[derive(Debug, Drop)]
 pub struct Blocks {
     tables: Tables,
     free: Chain,
     lists: Vec<Chain>,
     next: Vec<u32>,
+    fronts: Vec<Front>,
 }
 
 impl Model for Blocks {
@@ -46,7 +49,7 @@ impl Model for Blocks {
     } };
 
     ghost invariant = { λ b. IsIndexed b.tables.before.items b.tables.jump.items
-        b.tables.place.items (b.free ∷ b.lists.items) b.next.items };
+        b.tables.place.items (b.free ∷ b.lists.items) b.next.items b.fronts.items };
 }
 
 impl Blocks {
@@ -63,6 +66,7 @@ impl Blocks {
             free: Chain::EMPTY,
             lists: Vec::new(alloc),
             next: Vec::new(alloc),
+            fronts: Vec::new(alloc),
         }
     }
 
@@ -83,8 +87,10 @@ impl Blocks {
         ensures err { OnErr result (self.new ≡ self.old) }
     {
         self.next.reserve(1)?;
+        self.fronts.reserve(1)?;
         self.lists.push(Chain::EMPTY)?;
         self.next.push_reserved(0);
+        self.fronts.push_reserved(Front::NONE);
         Ok(())
     }
 
@@ -196,6 +202,17 @@ impl Blocks {
         }
     }
 
+    // The front of a list.
+    fn front(&self, list: u32) -> Front
+        requires { list + 1 < length self.now.chains }
+        ensures value { IsFront (list_of self.now list).blocks result.first result.blocks }
+        ensures few { 0 < result.blocks → result.first + result.blocks ≤ 2 ^ 32 }
+        ensures held { length (list_of self.now list).blocks < 2 ^ 32 }
+        ensures apart { IsApart self.now }
+    {
+        self.fronts[list as usize]
+    }
+
     // The block at a place of a list.
     fn find(&self, list: u32, at: usize) -> usize
         requires exists { list + 1 < length self.now.chains }
@@ -204,6 +221,21 @@ impl Blocks {
         ensures few { result < 2 ^ 32 }
         ensures held { length (list_of self.now list).blocks < 2 ^ 32 }
         ensures apart { IsApart self.now }
+    {
+        let front = self.front(list);
+        if at < front.blocks as usize {
+            front.first as usize + at
+        } else {
+            self.find_by_jumps(list, at)
+        }
+    }
+
+    // The block at a place of a list, from the list's last block on.
+    fn find_by_jumps(&self, list: u32, at: usize) -> usize
+        requires exists { list + 1 < length self.now.chains }
+        requires within { at < length (list_of self.now list).blocks }
+        ensures value { result ≡ slice_index (list_of self.now list).blocks at }
+        ensures few { result < 2 ^ 32 }
     {
         let tables = &self.tables;
         let mut block = self.lists[list as usize].last;
@@ -235,8 +267,9 @@ impl Blocks {
             (at + result.count - 1) (result.first + result.count - 1)) }
     {
         let end = most.min(self.count(list) - at);
-        let mut count = 1;
-        let mut last = block;
+        let front = self.front(list);
+        let mut count = (front.blocks as usize).saturating_sub(at).min(end).max(1);
+        let mut last = block + (count - 1) as u32;
         while count < end && self.goes_on(list, at + count - 1, last) {
             count += 1;
             last += 1;
@@ -285,8 +318,8 @@ impl Blocks {
         self.stretch_from(list, from, block)
     }
 
-    // The block at a place of a list. Where it is not among those that were looked up last, it is
-    // looked up together with those behind it.
+    // The block at a place of a list. Where it is neither in the front nor among those that were
+    // looked up last, it is looked up together with those behind it.
     fn find_ahead(&self, list: u32, at: usize, ahead: &mut Ahead) -> u32
         requires exists { list + 1 < length self.now.chains }
         requires within { at < length (list_of self.now list).blocks }
@@ -296,6 +329,10 @@ impl Blocks {
         ensures ahead { IsAhead (list_of self.now list).blocks ahead.new.first ahead.new.count
             ahead.new.numbers }
     {
+        let front = self.front(list);
+        if at < front.blocks as usize {
+            return front.first + at as u32;
+        }
         if at < ahead.first || at - ahead.first >= ahead.count {
             self.look_ahead(list, at, ahead);
         }
@@ -393,6 +430,9 @@ impl Blocks {
             first as u32,
         );
         self.next[list as usize] = next;
+        let blocks = self.lists[list as usize].blocks;
+        let front = self.fronts[list as usize].with_blocks(blocks, first as u32, n as u32);
+        self.fronts[list as usize] = front;
         for block in first..first + n {
             let to = self.lists[list as usize];
             self.lists[list as usize] = self.tables.longer(block as u32, to);
@@ -411,6 +451,8 @@ impl Blocks {
         let to = self.lists[list as usize];
         let next = next_with(to, self.next[list as usize], from.last);
         self.next[list as usize] = next;
+        let front = self.fronts[list as usize].with_blocks(to.blocks, from.last, 1);
+        self.fronts[list as usize] = front;
         self.free = self.tables.shorter(from);
         self.lists[list as usize] = self.tables.longer(from.last, to);
     }
@@ -423,6 +465,8 @@ impl Blocks {
     {
         let from = self.lists[list as usize];
         let to = self.free;
+        let front = self.fronts[list as usize].without_last(from.blocks);
+        self.fronts[list as usize] = front;
         self.lists[list as usize] = self.tables.shorter(from);
         self.free = self.tables.longer(from.last, to);
     }

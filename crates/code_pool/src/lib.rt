@@ -6,6 +6,7 @@ mod ahead;
 mod beside;
 mod blocks;
 mod chain;
+mod front;
 mod keep;
 mod number;
 mod pool;

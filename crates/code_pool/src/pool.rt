@@ -27,9 +27,10 @@ use std::marker::{Model, PhantomData};
 /// arrays of codes.
 ///
 /// All rows stand in one region, in blocks of 4 rows. A block belongs to one list or is free, and a
-/// block that a list gives back serves any other. No list has a table of its own: from its last
-/// block each of its blocks is found in a number of steps logarithmic in the length of the list. A
-/// `walk` over a whole list takes a number of steps linear in its length.
+/// block that a list gives back serves any other. No list has a table of its own: as far as its
+/// blocks stand side by side from the first on, each is found at once, and any other from the last
+/// block in a number of steps logarithmic in the length of the list. A `walk` over a whole list
+/// takes a number of steps linear in its length.
 ///
 /// The only way to a stored code is to borrow it by `lend`, by `lend_one` or by `lend` of a `walk`,
 /// all of which raise the meter's `lent`. A pool holds no value of its ledger `L`, so it cannot make

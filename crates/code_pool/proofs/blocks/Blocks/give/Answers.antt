@@ -1,7 +1,9 @@
-use Rattle.std.proofs.Common.{◌<◌, length, arith, ap, subst, sym}
-use Rattle.code_pool.specs.Chains.{BlockChains, Held, IsNext}
+use Rattle.std.proofs.Common.{◌≡◌, ◌+◌, ◌<◌, ◌∙◌, length, arith, ap, set, subst, sym}
+use Rattle.code_pool.specs.Chains.{BlockChains, Held, IsFront, IsNext, chain_at}
+use Rattle.code_pool.specs.Linked.{IsFronts}
 use Rattle.code_pool.proofs.LinkLemmas.{given, list_bounds, list_seen, free_bounds, length-blocks_to}
 use Rattle.code_pool.proofs.NextLemmas.{next-given}
+use Rattle.code_pool.proofs.FrontLemmas.{front_read, fronts-given}
 use Rattle.code_pool.proofs.blocks.Blocks.give.Goals as goal
 
 pub shorter-requires-clause-some : goal.shorter-requires-clause-some
@@ -67,6 +69,16 @@ invariant_of-self c =
     ) in
     let was : IsNext c.args.self.now c.self.inside.next.items = subst
     (λ (b : BlockChains). IsNext b c.self.inside.next.items) c.self.view_is c.self.invariant.next in
+    let fronts : IsFronts c.args.self.now c.self.inside.fronts.items = subst
+    (λ (b : BlockChains). IsFronts b c.self.inside.fronts.items) c.self.view_is c.self.invariant.front in
+    let count : length (chain_at c.args.self.now (c.args.list + 1)).blocks ≡ e.blocks =
+    ap (λ (h : Held). length h.blocks)
+    (list_seen i.tables.before.items i.free i.lists.items c.args.self.now c.args.list e
+    c.self.view_is c.requires.exists c.index-from.ensures)
+    ∙ length-blocks_to i.tables.before.items e.last e.blocks in
+    let known : IsFront (chain_at c.args.self.now (c.args.list + 1)).blocks c.index.result.now.first
+    c.index.result.now.blocks = front_read c.args.self.now i.fronts.items c.args.list c.index.result.now fronts
+    c.requires.exists c.index.ensures in
     let g = given i.tables.before.items i.tables.jump.items i.tables.place.items _ _ _ i.free _ i.lists.items
     c.args.self.now c.args.list e _ c.self.invariant.blocks c.self.view_is c.requires.exists c.index-from.ensures
     some
@@ -76,6 +88,10 @@ invariant_of-self c =
       blocks = g.0;
       next = subst (λ (b : BlockChains). IsNext b c.self.inside.next.items) (sym g.1)
           (next-given c.args.self.now i.next.items c.args.list was c.requires.exists);
+      front = subst (λ (b : BlockChains). IsFronts b (set i.fronts.items c.args.list c.without_last-front.result))
+          (sym g.1) (fronts-given c.args.self.now i.fronts.items c.args.list c.without_last-front.result fronts
+          c.requires.exists (c.without_last-front.ensures (chain_at c.args.self.now (c.args.list + 1)).blocks count
+          known));
     }
 
 pub returns : goal.returns
@@ -94,3 +110,16 @@ returns c =
     c.args.list e _ c.self.invariant.blocks c.self.view_is c.requires.exists c.index-from.ensures some
     c.longer-self-inside.ensures.before c.longer-self-inside.ensures.jump c.longer-self-inside.ensures.place
     c.longer-self-inside.ensures.chain c.shorter.ensures).1
+
+pub without_last-front-requires : goal.without_last-front-requires
+without_last-front-requires c =
+    let i = c.self.inside in
+    let e = c.index-from.result.now in
+    omega (
+      arith,
+      c.requires.some,
+      ap (λ (h : Held). length h.blocks)
+          (list_seen i.tables.before.items i.free i.lists.items c.args.self.now c.args.list e c.self.view_is
+          c.requires.exists c.index-from.ensures),
+      length-blocks_to i.tables.before.items e.last e.blocks,
+    )

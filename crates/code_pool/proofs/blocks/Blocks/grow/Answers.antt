@@ -1,11 +1,13 @@
 use Rattle.std.proofs.Common.{◌-◌, ◌<◌, ◌≤◌, ◌≡◌, ◌+◌, ◌++◌, ◌∷◌, length, replicate, arith, ap, ◌∙◌, map, ℕ, List}
 use Rattle.std.proofs.Common.{set, subst, sym}
 use Rattle.std.proofs.lemmas.List.{length-append, length-replicate, length-set}
-use Rattle.code_pool.specs.Chains.{BlockChains, Held, IsNext, chain_at, with_new}
-use Rattle.code_pool.specs.Linked.{held_by}
+use Rattle.std.specs.List.{range_with_len}
+use Rattle.code_pool.specs.Chains.{BlockChains, Held, IsFront, IsNext, chain_at, with_new}
+use Rattle.code_pool.specs.Linked.{IsFronts, held_by}
 use Rattle.code_pool.proofs.LinkLemmas.{partly-start, partly_bounds, list_inside, grown, grown-none, partly-whole}
-use Rattle.code_pool.proofs.LinkLemmas.{seen, with_numbers}
+use Rattle.code_pool.proofs.LinkLemmas.{seen, list_bounds, list_seen, length-blocks_to, with_numbers}
 use Rattle.code_pool.proofs.NextLemmas.{chosen, next-grown}
+use Rattle.code_pool.proofs.FrontLemmas.{front_read, fronts-grown}
 use Rattle.code_pool.proofs.blocks.Blocks.grow.Goals as goal
 
 pub loop-block-init : goal.loop-block-init
@@ -21,6 +23,16 @@ loop-block-init c =
     let i = c.self.inside in
     let was : IsNext c.args.self.now c.self.inside.next.items = subst
     (λ (b : BlockChains). IsNext b c.self.inside.next.items) c.self.view_is c.self.invariant.next in
+    let fronts : IsFronts c.args.self.now c.self.inside.fronts.items = subst
+    (λ (b : BlockChains). IsFronts b c.self.inside.fronts.items) c.self.view_is c.self.invariant.front in
+    let known : IsFront (chain_at old (c.args.list + 1)).blocks c.index-4.result.now.first
+    c.index-4.result.now.blocks = front_read c.args.self.now i.fronts.items c.args.list c.index-4.result.now fronts
+    c.requires.exists c.index-4.ensures in
+    let count : length (chain_at old (c.args.list + 1)).blocks ≡ c.index-3.result.now.blocks =
+    ap (λ (h : Held). length h.blocks)
+    (list_seen t.before.items i.free i.lists.items old c.args.list c.index-3.result.now c.self.view_is
+    c.requires.exists c.index-3.ensures)
+    ∙ length-blocks_to t.before.items c.index-3.result.now.last c.index-3.result.now.blocks in
     let n = chosen t.before.items i.free i.lists.items old c.args.list c.index-2.result.now c.next_with-next.result
     c.len-first.result c.index.result.now i.next.items c.self.view_is c.requires.exists c.index.ensures
     c.index-2.ensures was
@@ -35,7 +47,19 @@ loop-block-init c =
           (c.args.list + 1) c.args.n c.len-first.result c.self.invariant.blocks c.self.view_is (first ∙ all);
       next = next-grown old c.self.inside.next.items c.args.list c.args.n c.len-first.result c.next_with-next.result
           was c.requires.exists c.requires.held (first ∙ all) n.0 n.1;
+      fronts = fronts-grown old i.fronts.items c.args.list c.args.n c.with_blocks-front.result fronts c.requires.exists
+          (subst (λ (k : ℕ). IsFront ((chain_at old (c.args.list + 1)).blocks ++ range_with_len k c.args.n)
+          c.with_blocks-front.result.first c.with_blocks-front.result.blocks) (first ∙ all)
+          (c.with_blocks-front.ensures (chain_at old (c.args.list + 1)).blocks count known));
     }
+
+pub with_blocks-front-requires : goal.with_blocks-front-requires
+with_blocks-front-requires c =
+    let i = c.self.inside in
+    let b = list_bounds i.tables.before.items i.tables.jump.items i.tables.place.items i.free i.lists.items
+    c.args.self.now c.args.list c.index-3.result.now c.self.invariant.blocks c.self.view_is c.requires.exists
+    c.index-3.ensures in
+    omega (arith, b.0, c.requires.few, ap (λ (q : BlockChains). q.all) c.self.view_is)
 
 pub longer-requires-clause-few : goal.longer-requires-clause-few
 longer-requires-clause-few c =
@@ -81,6 +105,7 @@ loop-block-preserved c =
       size = ap (λ (xs : List ℕ). length xs) e.before ∙ length-set i.tables.before.items c.loop-block.block _ ∙ v.size;
       seen = g.1;
       next = v.next;
+      fronts = v.fronts;
     }
 
 pub invariant_of-self-in-loop-block : goal.invariant_of-self-in-loop-block
@@ -105,4 +130,5 @@ invariant_of-self-in-loop-block c =
       blocks = partly-whole c.loop-block.block i.tables.before.items i.tables.jump.items i.tables.place.items
           (i.free ∷ i.lists.items) v.partly (omega (arith, v.size));
       next = subst (λ (b : BlockChains). IsNext b i.next.items) (sym whole) v.next;
+      front = subst (λ (b : BlockChains). IsFronts b i.fronts.items) (sym whole) v.fronts;
     }

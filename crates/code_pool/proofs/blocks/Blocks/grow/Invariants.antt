@@ -1,6 +1,6 @@
 use Rattle.std.proofs.Common.{◌≡◌, ◌+◌, ◌-◌, ◌∷◌, length, map, set}
 use Rattle.code_pool.specs.Chains.{IsNext, chain_at, with_new}
-use Rattle.code_pool.specs.Linked.{held_by}
+use Rattle.code_pool.specs.Linked.{IsFronts, held_by}
 use Rattle.code_pool.proofs.LinkLemmas.{IsPartly, with_numbers}
 use Rattle.code_pool.proofs.blocks.Blocks.grow.Given as goal
 
@@ -13,4 +13,5 @@ invariant-loop-block l = record {
       ≡ set l.fn.self.chains (l.list + 1)
       (with_numbers (chain_at l.fn.self (l.list + 1)) l.fn.self.all (l.block - l.fn.self.all));
   next : IsNext (with_new l.fn.self (l.list + 1) l.n) l.self-inside.next.items;
+  fronts : IsFronts (with_new l.fn.self (l.list + 1) l.n) l.self-inside.fronts.items;
 }

@@ -1,9 +1,7 @@
-use Rattle.std.proofs.Common.{arith, subst, length, ap}
+use Rattle.std.proofs.Common.{arith}
 use Rattle.std.proofs.lemmas.List.{get_or_read}
-use Rattle.code_pool.specs.Chains.{IsApart, Held}
-use Rattle.code_pool.proofs.LinkLemmas.{found-last, found-inside, found-over, found-before, seen-apart, list_bounds}
-use Rattle.code_pool.proofs.LinkLemmas.{list_seen, length-blocks_to}
-use Rattle.code_pool.proofs.blocks.Blocks.find.Goals as goal
+use Rattle.code_pool.proofs.LinkLemmas.{found-last, found-inside, found-over, found-before}
+use Rattle.code_pool.proofs.blocks.Blocks.find_by_jumps.Goals as goal
 
 pub loop-tables-init : goal.loop-tables-init
 loop-tables-init c =
@@ -78,24 +76,3 @@ loop-tables-preserved c =
     c.index-in-loop-tables.result.now
     c.self.invariant.blocks c.self.view_is c.requires.exists c.loop-tables.invariant c.index-else-index-at.ensures
     c.index-in-loop-tables.ensures c.loop-tables-test.true).1
-
-pub returns-clause-apart : goal.returns-clause-apart
-returns-clause-apart c =
-    let t = c.self.inside.tables in
-    subst IsApart c.self.view_is (seen-apart t.before.items t.jump.items t.place.items _ c.self.invariant.blocks)
-
-pub returns-clause-held : goal.returns-clause-held
-returns-clause-held c =
-    let t = c.self.inside.tables in
-    let e = c.index.result.now in
-    let b = list_bounds t.before.items t.jump.items t.place.items c.self.inside.free c.self.inside.lists.items
-    c.args.self.now c.args.list e c.self.invariant.blocks c.self.view_is c.requires.exists c.index.ensures in
-    omega (
-      arith,
-      b.0,
-      c.self.invariant.blocks.few,
-      ap (λ (h : Held). length h.blocks)
-          (list_seen t.before.items c.self.inside.free c.self.inside.lists.items c.args.self.now c.args.list e
-          c.self.view_is c.requires.exists c.index.ensures),
-      length-blocks_to t.before.items e.last e.blocks,
-    )
