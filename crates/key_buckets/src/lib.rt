@@ -9,5 +9,5 @@ mod room;
 
 pub use key_table::KeyTable;
 pub use keys::chunk_keys;
-pub use near::near_buckets;
+pub use near::{near_buckets, push_near_buckets};
 pub use room::make_room;

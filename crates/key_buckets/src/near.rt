@@ -1,4 +1,4 @@
-ghost use Rattle.std.specs.Prelude.{◌≡◌, ◌+◌, ◌≤◌, length, nat_eq, IfOk, OnOk};
+ghost use Rattle.std.specs.Prelude.{◌≡◌, ◌+◌, ◌≤◌, ◌++◌, length, nat_eq, IfOk, OnOk};
 ghost use Rattle.std.specs.List.{IsDistinct};
 ghost use Rattle.std.specs.Map.{keys_of};
 ghost use Rattle.bcodes.specs.Ranges.{raised};
@@ -37,36 +37,64 @@ pub fn near_buckets<L: Ledger>(
     ensures asked_least { meter.old.asked ≤ meter.new.asked }
     ensures asked_most { meter.new.asked ≤ meter.old.asked + looks_at table.now b nflip }
 {
-    if patterns(b, nflip) <= table.len() as u128 {
-        let near = flipped_buckets(alloc, table, b, nflip, key, meter)?;
-        Ok(near)
-    } else {
-        let near = buckets_by_key(alloc, table, nflip, key, meter)?;
-        Ok(near)
-    }
+    let mut near = Vec::new(alloc);
+    push_near_buckets(table, b, nflip, key, &mut near, meter)?;
+    Ok(near)
 }
 
-// The lists of the flipped keys that have buckets.
-fn flipped_buckets<L: Ledger>(
-    alloc: Global,
+/// Appends the lists of `near_buckets` to those that were found before.
+///
+/// # Errors
+///
+/// As in `near_buckets`. What `near` holds then means nothing.
+pub fn push_near_buckets<L: Ledger>(
     table: &KeyTable,
     b: u32,
     nflip: u32,
     key: u64,
+    near: &mut Vec<u32>,
     meter: &mut Meter<L>,
-) -> Result<Vec<u32>, Want>
+) -> Result<(), Want>
     requires b_least { 1 ≤ b }
     requires b_most { b ≤ 64 }
     requires flips_most { nflip ≤ b }
-    ensures near { IfOk result (λ near.
-        near.items ≡ flipped_lists table.now key (flips b nflip)) }
+    ensures near { OnOk result (near.new.items
+        ≡ near.old.items ++ near_lists table.now b nflip key) }
+    ensures distinct { IsDistinct nat_eq (keys_of table.now) }
+    ensures lent { meter.new.lent ≡ meter.old.lent }
+    ensures asked { OnOk result (meter.new.asked
+        ≡ raised meter.old.asked (looks_at table.now b nflip)) }
+    ensures asked_least { meter.old.asked ≤ meter.new.asked }
+    ensures asked_most { meter.new.asked ≤ meter.old.asked + looks_at table.now b nflip }
+{
+    if patterns(b, nflip) <= table.len() as u128 {
+        push_flipped(table, b, nflip, key, near, meter)?;
+    } else {
+        push_by_key(table, nflip, key, near, meter)?;
+    }
+    Ok(())
+}
+
+// Appends the lists of the flipped keys that have buckets.
+fn push_flipped<L: Ledger>(
+    table: &KeyTable,
+    b: u32,
+    nflip: u32,
+    key: u64,
+    near: &mut Vec<u32>,
+    meter: &mut Meter<L>,
+) -> Result<(), Want>
+    requires b_least { 1 ≤ b }
+    requires b_most { b ≤ 64 }
+    requires flips_most { nflip ≤ b }
+    ensures near { OnOk result (near.new.items
+        ≡ near.old.items ++ flipped_lists table.now key (flips b nflip)) }
     ensures lent { meter.new.lent ≡ meter.old.lent }
     ensures asked { OnOk result (meter.new.asked
         ≡ raised meter.old.asked (length (flips b nflip))) }
     ensures asked_least { meter.old.asked ≤ meter.new.asked }
     ensures asked_most { meter.new.asked ≤ meter.old.asked + length (flips b nflip) }
 {
-    let mut near = Vec::new(alloc);
     let mut walk = Flips::new(b, nflip);
     while let Some(pattern) = walk.next() {
         meter.raise_asked(1);
@@ -74,25 +102,25 @@ fn flipped_buckets<L: Ledger>(
             near.push(list)?;
         }
     }
-    Ok(near)
+    Ok(())
 }
 
-// The lists of the buckets whose keys are near, each bucket looked at.
-fn buckets_by_key<L: Ledger>(
-    alloc: Global,
+// Appends the lists of the buckets whose keys are near, each bucket looked at.
+fn push_by_key<L: Ledger>(
     table: &KeyTable,
     nflip: u32,
     key: u64,
+    near: &mut Vec<u32>,
     meter: &mut Meter<L>,
-) -> Result<Vec<u32>, Want>
-    ensures near { IfOk result (λ near. near.items ≡ lists_by_key table.now nflip key) }
+) -> Result<(), Want>
+    ensures near { OnOk result (near.new.items
+        ≡ near.old.items ++ lists_by_key table.now nflip key) }
     ensures lent { meter.new.lent ≡ meter.old.lent }
     ensures asked { OnOk result (meter.new.asked
         ≡ raised meter.old.asked (length table.now)) }
     ensures asked_least { meter.old.asked ≤ meter.new.asked }
     ensures asked_most { meter.new.asked ≤ meter.old.asked + length table.now }
 {
-    let mut near = Vec::new(alloc);
     for i in 0..table.len() {
         meter.raise_asked(1);
         let (other, list) = table.bucket(i);
@@ -100,5 +128,5 @@ fn buckets_by_key<L: Ledger>(
             near.push(list)?;
         }
     }
-    Ok(near)
+    Ok(())
 }
