@@ -2,18 +2,22 @@
 use Rattle.std.proofs.Common.{◌≡◌, ℕ, zero, suc, ◌+◌, ◌-◌, ◌*◌, ◌<◌, ◌≤◌, ◌⊎◌, inl, inr, Bool, true, false, cond, nat_eq}
 use Rattle.std.proofs.Common.{nat_abs, ℤ, pos, List, [], ◌∷◌, ◌++◌, length, take, drop, map, get_or, refl, sym, ap, ◌∙◌}
 use Rattle.std.proofs.Common.{subst, arith, append-nil, append_assoc}
-use Rattle.std.specs.List.{All, flat_map, range_with_len}
+use Rattle.std.specs.List.{All, IsDistinct, flat_map, range_with_len}
+use Rattle.std.specs.Map.{keys_of}
+use Rattle.std.proofs.lemmas.Grind.{flat_map-append}
 use Rattle.std.proofs.lemmas.List.{map-append, take_more}
-use Rattle.std.proofs.lemmas.List.Elements.{All-take, All-drop, All-nil, All-cons, All-head, All-tail}
+use Rattle.std.proofs.lemmas.List.Elements.{All-take, All-drop, All-nil, All-cons, All-head, All-tail, All-append}
 use Rattle.std.proofs.Math.Seq.{take-add}
 use Rattle.std.proofs.lemmas.Int.{ints}
 use Rattle.bcodes.specs.Value.{Row, IsPlace}
 use Rattle.code_pool.specs.Lists.{IsPart, PoolLists, label_of}
 use Rattle.flip_walk.specs.Patterns.{times}
+use Rattle.key_buckets.specs.Keys.{key_in}
 use Rattle.key_buckets.specs.Near.{looks_at}
+use Rattle.key_buckets.proofs.NearLemmas.{near_known}
 use Rattle.std.proofs.lemmas.Bool.{cases_lt}
 use Rattle.multi_hash.specs.Inside.{IsPosition, lists_in, map_at}
-use Rattle.multi_hash.specs.Meet.{asked_below, position_of, positions_on}
+use Rattle.multi_hash.specs.Meet.{asked_below, met_under, near_under, position_of, positions_on, AreNumbered}
 use Rattle.multi_hash.specs.Seen.{first_met}
 use Rattle.multi_hash.proofs.MeetLemmas.{flat_map-range_more}
 
@@ -104,3 +108,23 @@ flat_map-range_next f n =
     let at : 0 + n ≡ n = omega arith in
     ap (λ (m : ℕ). flat_map f (range_with_len 0 m)) e ∙ flat_map-range_more f 0 n
     ∙ ap (λ (m : ℕ). flat_map f (range_with_len 0 n) ++ f m) at
+
+-- the lists of all maps are there, and hold what is met map by map
+pub met-near : (maps : List (List (ℕ × ℕ))) (p : PoolLists) (b nflip : ℕ) (q is : List ℕ)
+    → flat_map (positions_on p) (flat_map (near_under maps b nflip q) is) ≡ flat_map (met_under maps p b nflip q) is
+met-near maps p b nflip q [] = refl
+met-near maps p b nflip q (i ∷ is) =
+    flat_map-append (positions_on p) (near_under maps b nflip q i) (flat_map (near_under maps b nflip q) is)
+    ∙ ap (λ (ps : List ℕ). met_under maps p b nflip q i ++ ps) (met-near maps p b nflip q is)
+
+pub near_there : (maps : List (List (ℕ × ℕ))) (n b nflip : ℕ) (q : List ℕ) (m : ℕ) → AreNumbered maps n
+    → ((i : ℕ) → i < m → IsDistinct nat_eq (keys_of (map_at maps i)))
+    → All (λ l. l < n) (flat_map (near_under maps b nflip q) (range_with_len 0 m))
+near_there maps n b nflip q zero numbered distinct = All-nil (λ l. l < n)
+near_there maps n b nflip q (suc m) numbered distinct =
+    let f : ℕ → List ℕ = near_under maps b nflip q in
+    let e : m + 1 ≡ suc m = omega arith in
+    subst (All (λ l. l < n)) (sym (flat_map-range_next f m) ∙ ap (λ (k : ℕ). flat_map f (range_with_len 0 k)) e)
+    (All-append (λ l. l < n) (flat_map f (range_with_len 0 m)) (f m)
+    (near_there maps n b nflip q m numbered (λ i h. distinct i (omega arith)))
+    (near_known (map_at maps m) n n b nflip (key_in m b q) (numbered m) (omega arith) (distinct m (omega arith))))

@@ -14,9 +14,13 @@ position_of row = nat_abs row.label
 abbrev pub positions_on : PoolLists → ℕ → List ℕ
 positions_on p l = map position_of (lists_in p l)
 
--- those under map i that a query meets
+-- the lists of the buckets of map i that a query looks into
+abbrev pub near_under : List (List (ℕ × ℕ)) → ℕ → ℕ → List ℕ → ℕ → List ℕ
+near_under maps b nflip q i = near_lists (map_at maps i) b nflip (key_in i b q)
+
+-- the positions under map i that it meets
 abbrev pub met_under : List (List (ℕ × ℕ)) → PoolLists → ℕ → ℕ → List ℕ → ℕ → List ℕ
-met_under maps p b nflip q i = flat_map (positions_on p) (near_lists (map_at maps i) b nflip (key_in i b q))
+met_under maps p b nflip q i = flat_map (positions_on p) (near_under maps b nflip q i)
 
 -- how many keys or buckets of the first n maps a query looks at
 abbrev pub asked_below : List (List (ℕ × ℕ)) → ℕ → ℕ → ℕ → ℕ

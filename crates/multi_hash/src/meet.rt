@@ -5,15 +5,18 @@ ghost use Rattle.std.specs.Map.{keys_of};
 ghost use Rattle.bcodes.specs.Ranges.{raised};
 ghost use Rattle.bcodes.specs.Value.{IsPlace};
 ghost use Rattle.multi_hash.specs.Inside.{IsPosition, lists_in, map_at};
-ghost use Rattle.multi_hash.specs.Meet.{asked_below, AreNumbered, met_under, positions_on};
+ghost use Rattle.multi_hash.specs.Meet.{asked_below, AreNumbered, met_under, near_under, positions_on};
 ghost use Rattle.multi_hash.specs.Seen.{first_met, IsSeen};
 
 use crate::Seen;
 use crate::tables::table;
 use bcodes::{Ledger, Meter, Want, chunk};
 use code_pool::Pool;
-use key_buckets::{KeyTable, near_buckets};
+use key_buckets::{KeyTable, push_near_buckets};
 use std::alloc::Global;
+
+/// The most positions that wait to be met.
+const WAITING: usize = 512;
 
 /// The positions in the buckets whose keys are near to the query's, map by map, each where it is
 /// met first. Each key or bucket that is looked at raises the meter's `asked` by 1.
@@ -50,49 +53,98 @@ pub fn meet<L: Ledger>(
     ensures asked_most { meter.new.asked
         ≤ meter.old.asked + asked_below maps.now b nflip (length maps.now) }
 {
-    let mut seen = Seen::new(alloc, count)?;
-    let mut met = Vec::new(alloc);
-    for i in 0..maps.len() {
-        let key = chunk(q, i as u32, b);
-        let near = near_buckets(alloc, table(maps, i), b, nflip, key, meter)?;
-        meet_lists(buckets, &near, &mut seen, &mut met)?;
-    }
+    let near = near_in_maps(alloc, maps, b, nflip, q, meter)?;
+    let met = meet_lists(alloc, buckets, &near, count)?;
     Ok(met)
 }
 
-// Meets the positions on some lists.
-fn meet_lists<L: Ledger>(
-    buckets: &Pool<L>,
-    lists: &[u32],
-    seen: &mut Seen,
-    met: &mut Vec<usize>,
-) -> Result<(), Want>
-    requires known { All (λ l. l < length buckets.now.lists) lists.now }
-    requires places { (l : ℕ) → All (IsPosition (length seen.old)) (lists_in buckets.now l) }
-    requires seen { IsSeen (length seen.old) met.old.items seen.old }
-    ensures met { OnOk result (met.new.items
-        ≡ first_met met.old.items (flat_map (positions_on buckets.now) lists.now)) }
-    ensures seen { OnOk result (IsSeen (length seen.old) met.new.items seen.new) }
-    ensures count { length seen.new ≡ length seen.old }
+// The lists of the buckets whose keys are near to the query's, map by map.
+fn near_in_maps<L: Ledger>(
+    alloc: Global,
+    maps: &[KeyTable],
+    b: u32,
+    nflip: u32,
+    q: &[u8],
+    meter: &mut Meter<L>,
+) -> Result<Vec<u32>, Want>
+    requires b_least { 1 ≤ b }
+    requires b_most { b ≤ 64 }
+    requires flips_most { nflip ≤ b }
+    requires within { length maps.now * b ≤ 8 * length q.now }
+    requires nhash_most { length maps.now ≤ 1024 }
+    ensures near { IfOk result (λ near. near.items
+        ≡ flat_map (near_under maps.now b nflip q.now) (range_with_len 0 (length maps.now))) }
+    ensures distinct { OnOk result ((i : ℕ) → i < length maps.now
+        → IsDistinct nat_eq (keys_of (map_at maps.now i))) }
+    ensures lent { meter.new.lent ≡ meter.old.lent }
+    ensures asked { OnOk result (meter.new.asked
+        ≡ raised meter.old.asked (asked_below maps.now b nflip (length maps.now))) }
+    ensures asked_least { meter.old.asked ≤ meter.new.asked }
+    ensures asked_most { meter.new.asked
+        ≤ meter.old.asked + asked_below maps.now b nflip (length maps.now) }
 {
-    for list in lists {
-        meet_list(buckets, *list, seen, met)?;
+    let mut near = Vec::new(alloc);
+    for i in 0..maps.len() {
+        let key = chunk(q, i as u32, b);
+        push_near_buckets(table(maps, i), b, nflip, key, &mut near, meter)?;
     }
-    Ok(())
+    Ok(near)
 }
 
-// Meets the positions on a list.
-fn meet_list<L: Ledger>(
+// The positions on some lists, each where it is met first.
+//
+// Most lists are short, and all that is read of one stands where no other read was. So each step is
+// made for many lists before the next step: the processor then waits for many reads at once.
+fn meet_lists<L: Ledger>(
+    alloc: Global,
+    buckets: &Pool<L>,
+    lists: &[u32],
+    count: usize,
+) -> Result<Vec<usize>, Want>
+    requires few { count ≤ 67108864 }
+    requires known { All (λ l. l < length buckets.now.lists) lists.now }
+    requires places { (l : ℕ) → All (IsPosition count) (lists_in buckets.now l) }
+    ensures { IfOk result (λ met. met.items
+        ≡ first_met [] (flat_map (positions_on buckets.now) lists.now)) }
+{
+    let mut seen = Seen::new(alloc, count)?;
+    let rows = count_rows(buckets, lists);
+    let mut met = Vec::with_capacity(alloc, rows.min(count))?;
+    let mut waiting = Vec::with_capacity(alloc, rows.min(WAITING))?;
+    for list in lists {
+        gather_list(buckets, *list, &mut waiting, &mut seen, &mut met)?;
+    }
+    meet_run(&waiting, &mut seen, &mut met)?;
+    Ok(met)
+}
+
+// The number of rows on some lists.
+fn count_rows<L: Ledger>(buckets: &Pool<L>, lists: &[u32]) -> usize
+    requires { All (λ l. l < length buckets.now.lists) lists.now }
+{
+    let mut rows = 0usize;
+    for list in lists {
+        rows = rows.saturating_add(buckets.len(*list));
+    }
+    rows
+}
+
+// Lets the positions on a list wait.
+fn gather_list<L: Ledger>(
     buckets: &Pool<L>,
     list: u32,
+    waiting: &mut Vec<i64>,
     seen: &mut Seen,
     met: &mut Vec<usize>,
 ) -> Result<(), Want>
     requires known { list < length buckets.now.lists }
     requires places { All (IsPosition (length seen.old)) (lists_in buckets.now list) }
+    requires waiting { All (IsPlace (length seen.old)) waiting.old.items }
     requires seen { IsSeen (length seen.old) met.old.items seen.old }
-    ensures met { OnOk result (met.new.items
-        ≡ first_met met.old.items (positions_on buckets.now list)) }
+    ensures met { OnOk result (first_met met.new.items (map nat_abs waiting.new.items)
+        ≡ first_met (first_met met.old.items (map nat_abs waiting.old.items))
+        (positions_on buckets.now list)) }
+    ensures waiting { OnOk result (All (IsPlace (length seen.old)) waiting.new.items) }
     ensures seen { OnOk result (IsSeen (length seen.old) met.new.items seen.new) }
     ensures count { length seen.new ≡ length seen.old }
 {
@@ -101,7 +153,34 @@ fn meet_list<L: Ledger>(
     while at < count {
         let run = buckets.labels(list, at);
         at += run.len();
-        meet_run(run, seen, met)?;
+        gather_run(run, waiting, seen, met)?;
+    }
+    Ok(())
+}
+
+// Lets positions, given as labels, wait. Where too many would wait, all are met.
+fn gather_run(
+    labels: &[i64],
+    waiting: &mut Vec<i64>,
+    seen: &mut Seen,
+    met: &mut Vec<usize>,
+) -> Result<(), Want>
+    requires places { All (IsPlace (length seen.old)) labels.now }
+    requires waiting { All (IsPlace (length seen.old)) waiting.old.items }
+    requires seen { IsSeen (length seen.old) met.old.items seen.old }
+    ensures met { OnOk result (first_met met.new.items (map nat_abs waiting.new.items)
+        ≡ first_met (first_met met.old.items (map nat_abs waiting.old.items))
+        (map nat_abs labels.now)) }
+    ensures waiting { OnOk result (All (IsPlace (length seen.old)) waiting.new.items) }
+    ensures seen { OnOk result (IsSeen (length seen.old) met.new.items seen.new) }
+    ensures count { length seen.new ≡ length seen.old }
+{
+    if labels.len() > WAITING.saturating_sub(waiting.len()) {
+        meet_run(waiting, seen, met)?;
+        waiting.clear();
+        meet_run(labels, seen, met)?;
+    } else {
+        waiting.extend_from_slice(labels)?;
     }
     Ok(())
 }

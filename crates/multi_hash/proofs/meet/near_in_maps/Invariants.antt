@@ -3,15 +3,12 @@ use Rattle.std.specs.List.{IsDistinct, flat_map, range_with_len}
 use Rattle.std.specs.Map.{keys_of}
 use Rattle.bcodes.specs.Ranges.{raised}
 use Rattle.multi_hash.specs.Inside.{map_at}
-use Rattle.multi_hash.specs.Meet.{asked_below, met_under}
-use Rattle.multi_hash.specs.Seen.{first_met, IsSeen}
-use Rattle.multi_hash.proofs.meet.meet.Given as goal
+use Rattle.multi_hash.specs.Meet.{asked_below, near_under}
+use Rattle.multi_hash.proofs.meet.near_in_maps.Given as goal
 
 abbrev pub invariant-loop-i : goal.invariant-loop-i
 invariant-loop-i g l = record {
-  met : l.met.items ≡ first_met [] (flat_map (met_under l.maps l.buckets l.b l.nflip l.q) (range_with_len 0 l.i));
-  seen : IsSeen l.count l.met.items l.seen;
-  marks : length l.seen ≡ l.count;
+  near : l.near.items ≡ flat_map (near_under l.maps l.b l.nflip l.q) (range_with_len 0 l.i);
   distinct : (j : ℕ) → j < l.i → IsDistinct nat_eq (keys_of (map_at l.maps j));
   lent : l.meter.lent ≡ l.initial.meter.lent;
   asked : l.meter.asked ≡ raised l.initial.meter.asked (asked_below l.maps l.b l.nflip l.i);
