@@ -1,3 +1,4 @@
+pub mod DirectLemmas
 pub mod FirstsLemmas
 pub mod OpenedLemmas
 pub mod RoomLemmas

@@ -1,3 +1,4 @@
+pub mod Direct
 pub mod Keys
 pub mod Near
 pub mod Room

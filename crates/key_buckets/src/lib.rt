@@ -2,6 +2,7 @@
 //! it puts a row, and the search for the buckets whose keys are near to a query's.
 #![tactic(auto)]
 
+mod direct;
 mod key_table;
 mod keys;
 mod near;
