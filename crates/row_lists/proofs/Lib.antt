@@ -1,3 +1,4 @@
 pub mod RoomLemmas
 pub mod PutLemmas
 pub mod WeaveLemmas
+pub mod SpanLemmas

@@ -3,7 +3,7 @@ use Rattle.std.specs.List.{All}
 use Rattle.std.specs.List.Sorted.{IsNonDecreasing}
 use Rattle.std.proofs.lemmas.List.Sorted.{All-permutation, IsNonDecreasingBy-from_sort}
 use Rattle.row_lists.proofs.RoomLemmas.{room_permuted, keep_permuted}
-use Rattle.row_lists.proofs.room.reserve_each.Goals as goal
+use Rattle.row_lists.proofs.room.reserve_in_order.Goals as goal
 
 pub reserve_sorted-requires-clause-known : goal.reserve_sorted-requires-clause-known
 reserve_sorted-requires-clause-known g c =
