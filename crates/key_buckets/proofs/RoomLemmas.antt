@@ -1,17 +1,18 @@
 -- Lemmas on room for rows that are to be added.
 use Rattle.std.proofs.Common.{◌≡◌, ℕ, zero, suc, ◌+◌, ◌<◌, ◌≤◌, ◌⊎◌, inl, inr, Bool, cond}
-use Rattle.std.proofs.Common.{nat_eq, List, [], ◌∷◌, ◌++◌, length, take, get_or, max, Some}
+use Rattle.std.proofs.Common.{nat_eq, List, [], ◌∷◌, ◌++◌, length, take, get_or, set, replicate, max, Option, Some, None}
 use Rattle.std.proofs.Common.{refl, sym, ap, ◌∙◌, arith, length-append}
-use Rattle.std.proofs.Common.{append_assoc, append-nil}
+use Rattle.std.proofs.Common.{append_assoc, append-nil, get_or-set_same, get_or-set_other}
 use Rattle.std.specs.List.{All, list_any}
 use Rattle.std.proofs.lemmas.List.Elements.{All-from_get_or}
 use Rattle.std.specs.Map.{keys_of}
-use Rattle.std.proofs.lemmas.List.{get_or_append_left, get_or-append-add, take_all}
+use Rattle.std.proofs.lemmas.List.{get_or_append_left, get_or-append-add, take_all, get_or-replicate, get_or_past, length-replicate}
 use Rattle.std.proofs.lemmas.List.{take_more}
 use Rattle.std.proofs.lemmas.Bool.{cases_lt}
+use Rattle.std.proofs.lemmas.Bool.Decides.{eqb_tells}
 use Rattle.code_pool.specs.Lists.{PoolLists, PoolList, list_at}
 use Rattle.key_buckets.specs.Keys.{firsts, list_of, IsNumbering}
-use Rattle.key_buckets.specs.Room.{IsOpened, IsRoomed, IsUndoable, lists_most}
+use Rattle.key_buckets.specs.Room.{AreOpened, IsOpened, IsRoomed, IsUndoable, lists_most}
 use Rattle.key_buckets.proofs.FirstsLemmas.{any-firsts, firsts-push}
 
 take-shorter : {A : Type 0} (m n : ℕ) (xs : List A) → m ≤ n → take m (take n xs) ≡ take m xs
@@ -141,3 +142,29 @@ pub numbers_in : (others : ℕ) (es fs : List (ℕ × ℕ)) (keys ns : List ℕ)
     → IsRoomed others es fs keys (length keys) ns → others + length fs ≤ n → All (λ l. l < n) ns
 numbers_in others es fs keys ns n r most = All-from_get_or (λ l. l < n) ns 0
     (λ k h. omega (arith, r.numbering.below _ (get_or ns k 0) (r.found k (omega (arith, r.count))), most))
+
+-- ---- keys that are known by their numbers
+
+none_at : (n k : ℕ) → (k < n) ⊎ (n ≤ k) → get_or {A = Option ℕ} (replicate n None) k None ≡ None
+none_at n k (inl low) = get_or-replicate {A = Option ℕ} n k None None low
+none_at n k (inr high) =
+    get_or_past {X = Option ℕ} (replicate n None) k None (omega (arith, length-replicate {A = Option ℕ} n None))
+
+none_some : (o : Option ℕ) (m : ℕ) → o ≡ None → o ≡ Some m → ⊥
+none_some o m f g = cc
+
+pub none_opened : (keys : List ℕ) (n : ℕ) (es : List (ℕ × ℕ)) → AreOpened keys (replicate n None) es
+none_opened keys n es k l e = absurd (none_some (get_or (replicate n None) k None) l (none_at n k (cases_lt k n)) e)
+
+-- one more place has a list
+pub opened_more : (others : ℕ) (keys : List ℕ) (opened : List (Option ℕ)) (old new : List (ℕ × ℕ)) (at l : ℕ)
+    → at < length opened → AreOpened keys opened old → IsOpened others old new (get_or keys at 0) l
+    → AreOpened keys (set opened at (Some l)) new
+opened_more others keys opened old new at l here so o n m e =
+    elim (eqb_tells n at) [
+      | inl t ↦
+          let is : Some l ≡ Some m = sym (get_or-set_same opened at (Some l) None here)
+          ∙ ap (λ (k : ℕ). get_or (set opened at (Some l)) k None) (sym t.1) ∙ e in
+          ap (λ (k : ℕ). list_of new (get_or keys k 0)) t.1 ∙ o.found ∙ is
+      | inr t ↦ o.kept (get_or keys n 0) m (so n m (sym (get_or-set_other opened at n (Some l) None t.1) ∙ e))
+    ]

@@ -1,6 +1,6 @@
 -- Room for rows that are to be added.
-use Rattle.std.specs.Prelude.{◌≡◌, ℕ, ◌+◌, ◌<◌, ◌≤◌, ◌⊎◌, ◌++◌, List, [], ◌∷◌, length, take, max, cond, nat_eq, Some}
-use Rattle.std.specs.Prelude.{slice_index}
+use Rattle.std.specs.Prelude.{◌≡◌, ℕ, ◌+◌, ◌<◌, ◌≤◌, ◌⊎◌, ◌++◌, List, [], ◌∷◌, length, map, take, max, cond, nat_eq, Some, None}
+use Rattle.std.specs.Prelude.{slice_index, slice_index_or, Option}
 use Rattle.std.specs.List.{list_any}
 use Rattle.std.specs.Map.{keys_of}
 use Rattle.code_pool.specs.Lists.{PoolLists, list_at}
@@ -40,3 +40,11 @@ pub record IsUndoable (others : ℕ) (old new : List (ℕ × ℕ)) (before after
   pub keys_most : others + length new ≤ length after.lists
   pub lists_least : length before.lists ≤ length after.lists
   pub lists_few : length after.lists ≤ max (length before.lists) lists_most
+
+-- the keys that numbers name
+abbrev pub keys_named : List ℕ → List ℕ → List ℕ
+keys_named keys numbers = map (λ n. slice_index keys n) numbers
+
+-- the keys at the places that have a list have this list
+abbrev pub AreOpened : List ℕ → List (Option ℕ) → List (ℕ × ℕ) → Type 0
+AreOpened keys opened es = (n l : ℕ) → slice_index_or opened n None ≡ Some l → list_of es (slice_index keys n) ≡ Some l

@@ -11,4 +11,4 @@ mod room;
 pub use key_table::KeyTable;
 pub use keys::chunk_keys;
 pub use near::{near_buckets, push_near_buckets};
-pub use room::make_room;
+pub use room::{make_named_room, make_room};
