@@ -1,7 +1,7 @@
 -- Lemmas on rows that are put on lists.
 use Rattle.std.proofs.Common.{◌≡◌, ℕ, zero, suc, ◌+◌, ◌<◌, ◌≤◌, inl, inr, Bool, true, false, cond}
 use Rattle.std.proofs.Common.{nat_eq, nat_abs, ℤ, pos, List, [], ◌∷◌, ◌++◌, length, take, map, get_or, refl, sym, ap}
-use Rattle.std.proofs.Common.{◌∙◌, arith, length-append, append_assoc, append-nil, length-set, length-take}
+use Rattle.std.proofs.Common.{◌∙◌, arith, length-append, append_assoc, append-nil, length-set, length-take, replicate}
 use Rattle.std.proofs.lemmas.List.{map-append, take_more}
 use Rattle.std.proofs.lemmas.Bool.{eq-eqb, ne_eqb}
 use Rattle.std.proofs.lemmas.Bool.Decides.{eqb_tells}
@@ -208,3 +208,31 @@ put_more order lists mid_order mid_lists new_order new_lists ns rows n row put o
   lists = ap (λ (p : PoolLists). length p.lists) one.is ∙ length-set mid_lists.lists (get_or ns n 0) _ ∙ put.lists;
   size = ap (λ (p : PoolLists). p.code_size) one.is ∙ put.size;
 }
+
+-- ---- rows that go on one list
+
+step_replicate : (t : Bool) (n : ℕ) → cond {A = ℕ} t 1 0 + cond {A = ℕ} t n 0 ≡ cond {A = ℕ} t (suc n) 0
+step_replicate true n = omega arith
+step_replicate false n = refl
+
+pub times-replicate : (l list n : ℕ) → times l (replicate n list) ≡ cond {A = ℕ} (nat_eq list l) n 0
+times-replicate l list zero = none (nat_eq list l)
+  where
+    none : (t : Bool) → 0 ≡ cond {A = ℕ} t 0 0
+    none true = refl
+    none false = refl
+times-replicate l list (suc n) = ap (λ (m : ℕ). cond {A = ℕ} (nat_eq list l) 1 0 + m) (times-replicate l list n)
+    ∙ step_replicate (nat_eq list l) n
+
+-- room on the list is room for all
+pub room_on_one : (p : PoolLists) (list n : ℕ) → n ≤ (list_at p list).spare → HasRoomFor (replicate n list) p
+room_on_one p list n room l =
+    elim (eqb_tells list l) [
+      | inl t ↦ omega (
+        arith,
+        room,
+        times-replicate l list n ∙ ap (λ (b : Bool). cond {A = ℕ} b n 0) t.0,
+        ap (λ (m : ℕ). (list_at p m).spare) t.1,
+      )
+      | inr t ↦ omega (arith, times-replicate l list n ∙ ap (λ (b : Bool). cond {A = ℕ} b n 0) t.0)
+    ]

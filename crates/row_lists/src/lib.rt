@@ -4,5 +4,5 @@
 mod put;
 mod room;
 
-pub use put::{put_all, put_row};
+pub use put::{put_all, put_on_one, put_row};
 pub use room::reserve_each;

@@ -1,12 +1,13 @@
-ghost use Rattle.std.specs.Prelude.{◌≡◌, ℕ, ◌/◌, ◌<◌, ◌≤◌, ◌++◌, length};
+ghost use Rattle.std.specs.Prelude.{◌≡◌, ℕ, ◌*◌, ◌/◌, ◌<◌, ◌≤◌, ◌++◌, length, replicate};
 ghost use Rattle.std.specs.List.{All};
 ghost use Rattle.bcodes.specs.Answers.{paired};
+ghost use Rattle.bcodes.specs.Chunks.{chunks_of};
 ghost use Rattle.code_pool.specs.Lists.{list_at};
 ghost use Rattle.row_lists.specs.Put.{IsPushed, mark_of, put_on};
 ghost use Rattle.row_lists.specs.Room.{HasRoomFor};
 ghost use Rattle.row_lists.specs.Rows.{lists_in, order_in};
 
-use bcodes::{Codes, Ledger};
+use bcodes::{Codes, Ledger, code_at};
 use code_pool::Pool;
 
 /// Puts rows on the lists of these numbers, on which there is room, and notes their order. It takes
@@ -36,6 +37,39 @@ pub fn put_all<L: Ledger>(
 {
     for i in 0..codes.len() {
         put_row(order, lists, numbers[i], labels[i], codes.get(i));
+    }
+}
+
+/// Puts rows on one list, on which there is room, and notes their order. Their codes of `size`
+/// bytes each lie side by side. It takes no memory.
+pub fn put_on_one<L: Ledger>(
+    order: &mut Pool<L>,
+    lists: &mut Pool<L>,
+    list: u32,
+    labels: &[i64],
+    codes: &[u8],
+    size: usize,
+)
+    requires exists { list < length lists.old.lists }
+    requires size { lists.old.code_size ≡ size }
+    requires some { 1 ≤ size }
+    requires whole { length codes.now ≡ length labels.now * size }
+    requires order_one { length order.old.lists ≡ 1 }
+    requires order_size { order.old.code_size ≡ 0 }
+    requires order_room { length labels.now ≤ (list_at order.old 0).spare }
+    requires room { length labels.now ≤ (list_at lists.old list).spare }
+    ensures order { order_in order.new
+        ≡ order_in order.old ++ replicate (length labels.now) list }
+    ensures order_one { length order.new.lists ≡ 1 }
+    ensures order_size { order.new.code_size ≡ 0 }
+    ensures rows { (l : ℕ) → lists_in lists.new l ≡ lists_in lists.old l
+        ++ put_on l (replicate (length labels.now) list)
+        (paired labels.now (chunks_of size (length labels.now) codes.now)) }
+    ensures lists { length lists.new.lists ≡ length lists.old.lists }
+    ensures size { lists.new.code_size ≡ lists.old.code_size }
+{
+    for i in 0..labels.len() {
+        put_row(order, lists, list, labels[i], code_at(codes, size, i));
     }
 }
 
