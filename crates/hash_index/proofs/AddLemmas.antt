@@ -1,6 +1,6 @@
 -- Lemmas on rows that are added.
-use Rattle.std.proofs.Common.{◌≡◌, ℕ, zero, suc, ◌*◌, ◌<◌}
-use Rattle.std.proofs.Common.{nat_eq, ℤ, pos, List, [], ◌∷◌, ◌++◌, length, map, get_or, Option, Some}
+use Rattle.std.proofs.Common.{◌≡◌, ℕ, suc, ◌*◌, ◌<◌}
+use Rattle.std.proofs.Common.{nat_eq, ℤ, List, [], ◌∷◌, ◌++◌, length, map, get_or, Option, Some}
 use Rattle.std.proofs.Common.{unwrap_or, refl, sym, ap, ◌∙◌, subst, arith, zero-add}
 use Rattle.std.specs.List.{All}
 use Rattle.std.proofs.lemmas.List.{map-append, take_all, length-map, get_or-map}
@@ -13,7 +13,7 @@ use Rattle.flip_walk.specs.Patterns.{under}
 use Rattle.key_buckets.specs.Keys.{key_in, firsts, list_of, IsNumbering}
 use Rattle.row_lists.specs.Put.{put_on}
 use Rattle.key_buckets.specs.Room.{IsRoomed}
-use Rattle.row_lists.proofs.PutLemmas.{put_on-under, length-paired, get-paired}
+use Rattle.row_lists.proofs.PutLemmas.{put_on-under, length-paired}
 use Rattle.hash_index.specs.Keys.{key_of}
 use Rattle.hash_index.specs.Table.{number_of, IsTable}
 

@@ -4,3 +4,4 @@ pub mod HashLemmas
 pub mod LegalHash
 pub mod MarkLemmas
 pub mod NearLemmas
+pub mod BucketLemmas

@@ -1,23 +1,20 @@
 -- The lists that a query looks into hold the rows that are probed.
-use Rattle.std.proofs.Common.{◌≡◌, ℕ, ◌-◌, ◌*◌, ◌^◌, ◌<◌, ◌≤◌, inl, inr, Bool, cond, nat_eq, nat_le, nat_lt, min, List}
-use Rattle.std.proofs.Common.{[], ◌∷◌, length, take, map, get_or, Option, Some, refl, sym, ap, ◌∙◌, subst, arith}
+use Rattle.std.proofs.Common.{◌≡◌, ℕ, ◌-◌, ◌*◌, ◌^◌, ◌<◌, ◌≤◌, inl, inr, Bool, cond, nat_eq, nat_le, min, List}
+use Rattle.std.proofs.Common.{[], ◌∷◌, length, get_or, Option, Some, refl, sym, ap, ◌∙◌, subst, arith}
 use Rattle.std.specs.List.{filter, flat_map, All, IsDistinct}
 use Rattle.std.specs.List.Sorted.{IsPermutation}
 use Rattle.std.specs.Map.{keys_of}
 use Rattle.std.specs.Int.RustNames.{count_ones}
 use Rattle.std.proofs.lemmas.List.{length-map, get_or-map, map-id}
 use Rattle.std.proofs.lemmas.List.Elements.{All-head, All-tail, filter_agree}
-use Rattle.std.proofs.lemmas.List.Sorted.{IsPermutation-map, length_permutation}
+use Rattle.std.proofs.lemmas.List.Sorted.{length_permutation}
 use Rattle.std.proofs.lemmas.Nat.{xor_comm}
 use Rattle.std.proofs.lemmas.Bool.{ne_eqb, eq-eqb}
 use Rattle.std.proofs.lemmas.Bool.Decides.{eqb_tells}
-use Rattle.bcodes.specs.declared.hit.Hit.{Hit}
-use Rattle.bcodes.specs.Hits.{in_order}
 use Rattle.bcodes.specs.Bits.{key, differing, dist_between}
 use Rattle.bcodes.specs.Value.{Row, HashValue, Hash, Bare}
-use Rattle.bcodes.specs.Answers.{best, within, hits, looked, hit_of, is_probed_hash}
+use Rattle.bcodes.specs.Answers.{is_probed_hash}
 use Rattle.bcodes.proofs.KeyLemmas.{key_below}
-use Rattle.bcodes.proofs.OrderLemmas.{in_order-permutation, filter-in_order}
 use Rattle.bcodes.proofs.LegalLemmas.{length-filter-le}
 use Rattle.code_pool.specs.Lists.{PoolLists}
 use Rattle.list_scan.specs.Visited.{rows_at}

@@ -1,5 +1,5 @@
 -- Lemmas on rows in the order of addition.
-use Rattle.std.proofs.Common.{◌≡◌, ℕ, List, map, sym, ap, ◌∙◌}
+use Rattle.std.proofs.Common.{◌≡◌, ℕ, List, sym, ap, ◌∙◌}
 use Rattle.std.proofs.lemmas.List.{map-id}
 use Rattle.bcodes.specs.Value.{Row}
 use Rattle.flip_walk.specs.Patterns.{under}

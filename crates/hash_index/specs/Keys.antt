@@ -1,6 +1,6 @@
 -- The keys of rows, and the rows under a key.
-use Rattle.std.specs.Prelude.{ℕ, List, length, map, min, nat_eq, slice_index}
-use Rattle.std.specs.List.{filter}
+use Rattle.std.specs.Prelude.{◌≡◌, ℕ, List, length, map, min, nat_eq, slice_index}
+use Rattle.std.specs.List.{All, filter}
 use Rattle.bcodes.specs.Bits.{key}
 use Rattle.bcodes.specs.Value.{Row, HashValue}
 use Rattle.flip_walk.specs.Patterns.{flips}
@@ -9,6 +9,10 @@ use Rattle.key_buckets.specs.Keys.{firsts}
 -- the key of a row
 abbrev pub key_of : ℕ → Row → ℕ
 key_of b row = key row.code 0 b
+
+-- codes that all have one key
+abbrev pub HaveKey : ℕ → ℕ → List (List ℕ) → Type 0
+HaveKey b k codes = All (λ code. key code 0 b ≡ k) codes
 
 -- the keys of the rows, in order of first appearance
 abbrev pub hash_keys : HashValue → List ℕ

@@ -1,16 +1,18 @@
-ghost use Rattle.std.specs.Prelude.{◌≡◌, ◌+◌, ◌/◌, ◌<◌, ◌≤◌, ◌++◌, length, slice_index};
+ghost use Rattle.std.specs.Prelude.{◌≡◌, ◌+◌, ◌*◌, ◌/◌, ◌<◌, ◌≤◌, ◌++◌, length, slice_index};
 ghost use Rattle.std.specs.Prelude.{IfOk, OnOk, OnErr};
+ghost use Rattle.bcodes.specs.Chunks.{chunks_of};
 ghost use Rattle.bcodes.specs.Ranges.{load_limit, raised};
 ghost use Rattle.bcodes.specs.Value.{Bare, Hash as HashForm, empty_hash, weight};
 ghost use Rattle.bcodes.specs.Answers.{best, looked, paired, within};
 ghost use Rattle.code_pool.specs.Lists.{IsRun};
-ghost use Rattle.hash_index.specs.Keys.{bucket_at, hash_keys, looks};
+ghost use Rattle.hash_index.specs.Keys.{HaveKey, bucket_at, hash_keys, looks};
 
+use crate::room::make_room_under;
 use bcodes::{Addable, BinaryIndex, Codes, Dim, Hits, KeySettings, Ledger, Meter, Want, chunk};
 use code_pool::{Pool, Run};
 use key_buckets::{KeyTable, chunk_keys, make_room, near_buckets};
 use list_scan::{range_lists, search_lists};
-use row_lists::put_all;
+use row_lists::{put_all, put_on_one};
 use std::alloc::Global;
 use std::marker::Model;
 
@@ -134,6 +136,50 @@ impl<L: Ledger> Hash<L> {
         ensures rises { meter.old.lent ≤ meter.new.lent }
     {
         self.buckets.lend(self.table.bucket(i).1, from, meter)
+    }
+
+    /// Appends rows whose codes all have this key, as `add_all` does but with one look for their
+    /// bucket. The codes lie side by side.
+    ///
+    /// # Errors
+    ///
+    /// If memory runs out. The index is then as before.
+    pub fn add_bucket(&mut self, key: u64, labels: &[i64], codes: &[u8]) -> Result<(), Want>
+        requires whole { length codes.now ≡ length labels.now * (self.old.dim / 8) }
+        requires keys { HaveKey self.old.b key
+            (chunks_of (self.old.dim / 8) (length labels.now) codes.now) }
+        requires load { weight self.old.dim 1 (length self.old.rows + length labels.now) 0
+            ≤ load_limit }
+        ensures ok { OnOk result (self.new ≡ record self.old {
+          rows = self.old.rows
+              ++ paired labels.now (chunks_of (self.old.dim / 8) (length labels.now) codes.now);
+        }) }
+        ensures err { OnErr result (self.new ≡ self.old) }
+    {
+        if labels.is_empty() {
+            return Ok(());
+        }
+        let n = labels.len();
+        let keys = self.table.len();
+        self.order.reserve(0, n)?;
+        match make_room_under(self.alloc, &mut self.table, &mut self.buckets, key, n) {
+            Ok(list) => {
+                let size = self.dim.bytes();
+                put_on_one(
+                    &mut self.order,
+                    &mut self.buckets,
+                    list,
+                    labels,
+                    codes,
+                    size,
+                );
+                Ok(())
+            }
+            Err(error) => {
+                self.table.truncate(keys);
+                Err(error)
+            }
+        }
     }
 
     // Appends rows. All growths come first, so that the pushes cannot fail.

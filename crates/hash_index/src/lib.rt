@@ -3,6 +3,7 @@
 
 mod hash;
 pub mod laws;
+mod room;
 
 pub use hash::Hash;
 

@@ -1,7 +1,6 @@
-use Rattle.std.proofs.Common.{◌≡◌, ◌+◌, ◌*◌, ◌<◌, ◌≤◌, ℕ, List, length, subst, sym, ap, ◌∙◌, arith}
+use Rattle.std.proofs.Common.{◌≡◌, ◌<◌, ℕ, List, length, subst, sym, ap, ◌∙◌, arith}
 use Rattle.std.specs.List.{All}
 use Rattle.bcodes.specs.Bits.{key}
-use Rattle.bcodes.specs.Counts.{Counts}
 use Rattle.bcodes.specs.Hits.{in_order}
 use Rattle.bcodes.specs.Ranges.{raised}
 use Rattle.list_scan.specs.Visited.{below, hits_on, rows_at}

@@ -1,8 +1,7 @@
-use Rattle.std.proofs.Common.{◌≡◌, ◌+◌, ◌*◌, ◌^◌, ◌<◌, ◌≤◌, ℕ, List, length, subst, sym, ap, ◌∙◌, arith}
+use Rattle.std.proofs.Common.{◌≡◌, ◌^◌, ◌<◌, ℕ, List, length, subst, sym, ap, ◌∙◌, arith}
 use Rattle.std.specs.List.{All}
 use Rattle.bcodes.specs.Bits.{key}
 use Rattle.bcodes.specs.Counts.{Counts}
-use Rattle.bcodes.specs.Hits.{in_order}
 use Rattle.bcodes.specs.Ranges.{raised}
 use Rattle.list_scan.specs.Visited.{first, hits_on, rows_at}
 use Rattle.key_buckets.specs.Near.{near_lists}
