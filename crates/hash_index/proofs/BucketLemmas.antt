@@ -1,7 +1,7 @@
 -- Lemmas on rows that all have one key.
 use Rattle.std.proofs.Common.{◌≡◌, ℕ, zero, suc, ◌+◌, ◌*◌, ◌≤◌, ◌||◌, Bool, true, false, cond, nat_eq, List, [], ◌∷◌, ◌++◌}
 use Rattle.std.proofs.Common.{length, map, get_or, replicate, ℤ, Some, refl, sym, ap, ◌∙◌, subst, arith}
-use Rattle.std.proofs.Common.{append_assoc, append-nil}
+use Rattle.std.proofs.Common.{append_assoc, append-nil, zero-add}
 use Rattle.std.specs.List.{list_any}
 use Rattle.std.proofs.lemmas.Bool.{eq-eqb}
 use Rattle.std.proofs.lemmas.List.{get_or-replicate, length-replicate, take_all}
@@ -11,10 +11,11 @@ use Rattle.bcodes.specs.Bits.{key}
 use Rattle.bcodes.specs.Ranges.{load_limit}
 use Rattle.bcodes.specs.Value.{weight}
 use Rattle.bcodes.specs.Answers.{paired}
-use Rattle.code_pool.specs.Lists.{PoolLists, IsReserved}
-use Rattle.key_buckets.specs.Keys.{firsts, key_in, list_of}
-use Rattle.key_buckets.specs.Room.{IsRoomed, IsUndoable}
+use Rattle.code_pool.specs.Lists.{PoolLists}
+use Rattle.key_buckets.specs.Keys.{firsts, key_in, list_of, IsNumbering}
+use Rattle.key_buckets.specs.Room.{IsOpened, IsRoomed, IsUndoable}
 use Rattle.key_buckets.proofs.FirstsLemmas.{firsts-push}
+use Rattle.key_buckets.proofs.RoomLemmas.{roomed_more, roomed_none}
 use Rattle.hash_index.specs.Keys.{HaveKey}
 use Rattle.hash_index.specs.Inside.{rows_in_order, IsHash}
 use Rattle.hash_index.proofs.HashLemmas.{IsAdded, hash_added, rows_added}
@@ -61,18 +62,16 @@ roomed_under es fs k n list ns some r is = record {
   most = omega (arith, r.most, some);
 }
 
--- more room on a list
-pub undo_reserved : (es fs : List (ℕ × ℕ)) (p q r : PoolLists) (l n : ℕ) → IsUndoable 0 es fs p q
-    → IsReserved q r l n → IsUndoable 0 es fs p r
-undo_reserved es fs p q r l n u h = record {
-  prefix = u.prefix;
-  least = u.least;
-  size = h.code_size ∙ u.size;
-  rows = λ m. h.rows m ∙ u.rows m;
-  keys_most = omega (arith, u.keys_most, h.lists);
-  lists_least = omega (arith, u.lists_least, h.lists);
-  lists_few = omega (arith, u.lists_few, h.lists);
-}
+-- the numbering, as it is where no other table shares the pool
+pub numbering_alone : (es : List (ℕ × ℕ)) → IsNumbering (length es) es → IsNumbering (0 + length es) es
+numbering_alone es n = subst (λ (m : ℕ). IsNumbering m es) (sym (zero-add (length es))) n
+
+pub roomed_opened : (es fs : List (ℕ × ℕ)) (k n list : ℕ) → 1 ≤ n → IsNumbering (length es) es
+    → IsOpened 0 es fs k list → IsRoomed 0 es fs (replicate n k) n (replicate n list)
+roomed_opened es fs k n list some numbering o =
+    roomed_under es fs k n list (list ∷ []) some
+    (roomed_more 0 es es fs (k ∷ []) 0 [] k list (omega arith) (omega arith)
+    (roomed_none 0 es (k ∷ []) (numbering_alone es numbering)) o refl) refl
 
 -- the keys of codes that have one
 pub keys_under : (b k : ℕ) (cs : List (List ℕ)) → HaveKey b k cs → replicate (length cs) k ≡ map (key_in 0 b) cs

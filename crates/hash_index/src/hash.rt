@@ -7,7 +7,7 @@ ghost use Rattle.bcodes.specs.Answers.{best, looked, paired, within};
 ghost use Rattle.code_pool.specs.Lists.{IsRun};
 ghost use Rattle.hash_index.specs.Keys.{HaveKey, bucket_at, hash_keys, looks};
 
-use crate::room::make_room_under;
+use crate::room::{make_room_in_order, make_room_under};
 use bcodes::{Addable, BinaryIndex, Codes, Dim, Hits, KeySettings, Ledger, Meter, Want, chunk};
 use code_pool::{Pool, Run};
 use key_buckets::{KeyTable, chunk_keys, make_room, near_buckets};
@@ -161,8 +161,8 @@ impl<L: Ledger> Hash<L> {
         }
         let n = labels.len();
         let keys = self.table.len();
-        self.order.reserve(0, n)?;
-        match make_room_under(self.alloc, &mut self.table, &mut self.buckets, key, n) {
+        make_room_in_order(&mut self.order, n)?;
+        match make_room_under(&mut self.table, &mut self.buckets, key, n) {
             Ok(list) => {
                 let size = self.dim.bytes();
                 put_on_one(

@@ -36,7 +36,7 @@ invariant_of-self-in-Ok g c =
     (replicate n c.in-Ok.list) (paired c.args.labels.now cs) = record {
       order_is = c.put_on_one.ensures.order
           ∙ ap (λ (os : List ℕ). os ++ replicate n c.in-Ok.list)
-          (order_kept i.order c.reserve.new.self _ c.in_ok-reserve.ensures.ok);
+          (order_kept i.order c.make_room_in_order.new.order _ c.in_ok-make_room_in_order.ensures.ok);
       order_one = c.put_on_one.ensures.order_one;
       order_size = c.put_on_one.ensures.order_size;
       rows_are = subst (λ (size : ℕ). (l : ℕ) → lists_in c.put_on_one.new.lists l
@@ -55,11 +55,11 @@ pub invariant_of-self-in-Err : goal.invariant_of-self-in-Err
 invariant_of-self-in-Err g c =
     let i = c.self.inside in
     hash_undone i.dim.bits i.b i.nflip i.table c.make_room_under.new.table c.truncate.new.self i.order
-    i.buckets c.reserve.new.self c.make_room_under.new.pool
+    i.buckets c.make_room_in_order.new.order c.make_room_under.new.pool
     c.self.invariant c.in-Err.ensures.undo (c.truncate.ensures
     ∙ ap (λ (n : ℕ). take n c.make_room_under.new.table) c.len-keys.ensures.value)
-    (order_kept i.order c.reserve.new.self _ c.in_ok-reserve.ensures.ok) (c.in_ok-reserve.ensures.ok.lists
-    ∙ c.self.invariant.order_one) (c.in_ok-reserve.ensures.ok.code_size ∙ c.self.invariant.order_size)
+    (order_kept i.order c.make_room_in_order.new.order _ c.in_ok-make_room_in_order.ensures.ok) (c.in_ok-make_room_in_order.ensures.ok.lists
+    ∙ c.self.invariant.order_one) (c.in_ok-make_room_in_order.ensures.ok.code_size ∙ c.self.invariant.order_size)
 
 pub returns-in-Ok-clause-ok : goal.returns-in-Ok-clause-ok
 returns-in-Ok-clause-ok g c =
@@ -73,7 +73,7 @@ returns-in-Ok-clause-ok g c =
     (replicate n c.in-Ok.list) (paired c.args.labels.now cs) = record {
       order_is = c.put_on_one.ensures.order
           ∙ ap (λ (os : List ℕ). os ++ replicate n c.in-Ok.list)
-          (order_kept i.order c.reserve.new.self _ c.in_ok-reserve.ensures.ok);
+          (order_kept i.order c.make_room_in_order.new.order _ c.in_ok-make_room_in_order.ensures.ok);
       order_one = c.put_on_one.ensures.order_one;
       order_size = c.put_on_one.ensures.order_size;
       rows_are = subst (λ (size : ℕ). (l : ℕ) → lists_in c.put_on_one.new.lists l
@@ -96,9 +96,9 @@ pub returns-in-Err-clause-err : goal.returns-in-Err-clause-err
 returns-in-Err-clause-err g c =
     let i = c.self.inside in
     let rows = rows_undone i.dim.bits i.b i.nflip i.table c.make_room_under.new.table
-    c.truncate.new.self i.order i.buckets c.reserve.new.self c.make_room_under.new.pool
+    c.truncate.new.self i.order i.buckets c.make_room_in_order.new.order c.make_room_under.new.pool
     c.self.invariant c.in-Err.ensures.undo (c.truncate.ensures
     ∙ ap (λ (n : ℕ). take n c.make_room_under.new.table) c.len-keys.ensures.value)
-    (order_kept i.order c.reserve.new.self _ c.in_ok-reserve.ensures.ok) (c.in_ok-reserve.ensures.ok.lists
-    ∙ c.self.invariant.order_one) (c.in_ok-reserve.ensures.ok.code_size ∙ c.self.invariant.order_size) in
+    (order_kept i.order c.make_room_in_order.new.order _ c.in_ok-make_room_in_order.ensures.ok) (c.in_ok-make_room_in_order.ensures.ok.lists
+    ∙ c.self.invariant.order_one) (c.in_ok-make_room_in_order.ensures.ok.code_size ∙ c.self.invariant.order_size) in
     ap (λ (rs : List Row). record { dim = i.dim.bits; b = i.b; nflip = i.nflip; rows = rs }) rows ∙ c.self.view_is
