@@ -13,6 +13,3 @@ pub use any_index::AnyIndex;
 pub use building::{build, load_of};
 pub use counts::Counts;
 pub use inner_index::InnerIndex;
-
-#[cfg(test)]
-mod tests;

@@ -43,6 +43,3 @@ pub use std::alloc::AllocError as Want;
 /// The most that an index may weigh. Each row weighs the bytes of a code, 16, and 64 for each map
 /// from keys to rows; each centroid weighs the bytes of a code and 16.
 pub const LOAD_LIMIT: u64 = 1_073_741_824;
-
-#[cfg(test)]
-mod tests;

@@ -14,6 +14,3 @@ pub use bit_reader::BitReader;
 pub use bit_writer::BitWriter;
 pub use packed::Packed;
 pub use short::Short;
-
-#[cfg(test)]
-mod tests;

@@ -21,6 +21,3 @@ pub use pool::Pool;
 pub use room::Room;
 pub use run::{RUN_ROWS, Run};
 pub use walk::Walk;
-
-#[cfg(test)]
-mod tests;

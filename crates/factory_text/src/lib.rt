@@ -26,6 +26,3 @@ pub use reading::{read, read_bytes};
 pub use spec::Spec;
 pub use spec_error::SpecError;
 pub use text::Text;
-
-#[cfg(test)]
-mod tests;

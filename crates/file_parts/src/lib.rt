@@ -27,6 +27,3 @@ pub use part_error::PartError;
 pub use reason::Reason;
 pub use role::Role;
 pub use store::Store;
-
-#[cfg(test)]
-mod tests;

@@ -6,6 +6,3 @@ mod flips;
 
 pub use count::patterns;
 pub use flips::Flips;
-
-#[cfg(test)]
-mod tests;

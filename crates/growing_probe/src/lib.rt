@@ -9,6 +9,3 @@ mod round;
 mod search;
 
 pub use search::nearest;
-
-#[cfg(test)]
-mod tests;

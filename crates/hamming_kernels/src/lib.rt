@@ -8,8 +8,6 @@ mod half;
 mod kernel;
 mod lanes;
 mod rest;
-#[cfg(test)]
-mod tests;
 mod twenty;
 mod words;
 

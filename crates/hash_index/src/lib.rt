@@ -6,6 +6,3 @@ pub mod laws;
 mod room;
 
 pub use hash::Hash;
-
-#[cfg(test)]
-mod tests;

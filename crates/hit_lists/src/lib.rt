@@ -9,6 +9,3 @@ mod slot_table;
 
 pub use best_k::BestK;
 pub use range_hits::RangeHits;
-
-#[cfg(test)]
-mod tests;

@@ -6,6 +6,3 @@ mod labels;
 
 pub use id_mapped::IdMapped;
 pub use labels::count_up;
-
-#[cfg(test)]
-mod tests;

@@ -9,6 +9,3 @@ mod selector;
 pub use id_list::IdList;
 pub use keep_positions::KeepPositions;
 pub use selector::Selector;
-
-#[cfg(test)]
-mod tests;

@@ -16,6 +16,3 @@ pub use reading::decode;
 pub use save_error::SaveError;
 pub use start::Start;
 pub use writing::encode;
-
-#[cfg(test)]
-mod tests;

@@ -15,6 +15,3 @@ mod put;
 
 pub use centroid_error::CentroidError;
 pub use ivf::Ivf;
-
-#[cfg(test)]
-mod tests;

@@ -2,8 +2,6 @@
 #![tactic(auto)]
 
 mod prepared;
-#[cfg(test)]
-mod tests;
 
 pub use hamming_kernels::Kernel;
 pub use prepared::Prepared;

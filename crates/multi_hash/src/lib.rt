@@ -16,6 +16,3 @@ mod wide;
 pub use multi::Multi;
 pub use seen::Seen;
 pub use wide::Wide;
-
-#[cfg(test)]
-mod tests;

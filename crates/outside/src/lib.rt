@@ -33,6 +33,3 @@ pub use sure_shelf::SureShelf;
 pub use sure_sink::SureSink;
 pub use sure_source::SureSource;
 pub use trouble::Trouble;
-
-#[cfg(test)]
-mod tests;

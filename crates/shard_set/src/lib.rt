@@ -7,6 +7,3 @@ mod queries;
 mod shards;
 
 pub use shards::Shards;
-
-#[cfg(test)]
-mod tests;

@@ -1,5 +1,0 @@
-use Rattle.shard_set.proofs.AlikeLemmas.{numbered_places}
-use Rattle.shard_set.proofs.tests.add_shard.Goals as goal
-
-pub push-requires-clause-places : goal.push-requires-clause-places
-push-requires-clause-places g c = numbered_places c.in_ok-shard.shard.codes
