@@ -1,23 +1,25 @@
--- Lemmas on codes that are placed run by run.
-use Rattle.std.proofs.Common.{◌≡◌, ◌≢◌, ℕ, zero, suc, ◌+◌, ◌-◌, ◌*◌, ◌/◌, ◌<◌, ◌≤◌, List, [], ◌∷◌, ◌++◌, length, take, drop}
-use Rattle.std.proofs.Common.{map, get_or, set, Some, refl, sym, ap, ◌∙◌, subst, arith, ℤ, pos, length-take}
+-- Lemmas on codes that are placed map by map.
+use Rattle.std.proofs.Common.{◌≡◌, ℕ, zero, suc, ◌+◌, ◌*◌, ◌<◌, ◌≤◌, ◌^◌, List, [], ◌∷◌, ◌++◌, length, take}
+use Rattle.std.proofs.Common.{drop, map, get_or, set, Some, refl, sym, ap, ◌∙◌, subst, arith, ℤ}
 use Rattle.std.specs.List.{All}
-use Rattle.std.proofs.Math.Seq.{take-add}
+use Rattle.std.specs.Map.{keys_of}
 use Rattle.std.proofs.Math.Nat.{mul-le-mul_right}
-use Rattle.std.proofs.lemmas.List.{length-map, length-drop, length-set}
+use Rattle.std.proofs.lemmas.List.{length-map, length-set}
 use Rattle.bcodes.specs.Ranges.{load_limit}
 use Rattle.bcodes.specs.Value.{Row, numbered, weight}
 use Rattle.bcodes.proofs.NumberedLemmas.{length-numbered}
 use Rattle.code_pool.specs.Lists.{IsRun, PoolLists, rows_in}
-use Rattle.key_buckets.specs.Keys.{key_in, list_of}
+use Rattle.key_buckets.specs.Keys.{firsts, key_in, list_of, IsNumbering}
+use Rattle.key_buckets.specs.Room.{IsRoomed, IsUndoable, lists_most}
 use Rattle.row_lists.specs.Put.{put_on}
-use Rattle.key_buckets.specs.Room.{IsRoomed, IsUndoable}
-use Rattle.multi_hash.specs.Inside.{map_at, lists_in, row_key, IsMap, AreMaps, IsMulti, IsPosition, IsShared}
+use Rattle.multi_hash.specs.Inside.{map_at, lists_in, row_key, IsMap, AreMaps, IsMulti, IsPosition}
+use Rattle.multi_hash.specs.Partly.{IsPartly}
 use Rattle.multi_hash.specs.Room.{marks, up_to}
 use Rattle.multi_hash.proofs.MapsLemmas.{maps_roomed, maps_put, found_new, map_same}
 use Rattle.multi_hash.proofs.MetLemmas.{take-map}
-use Rattle.multi_hash.proofs.StoreLemmas.{up_to_none, up_to_here, up_to_done, up_to_other}
-use Rattle.multi_hash.proofs.MultiLemmas.{more_codes}
+use Rattle.multi_hash.proofs.MultiLemmas.{light}
+use Rattle.multi_hash.proofs.PutLemmas.{places_put, length-put}
+use Rattle.multi_hash.proofs.StoreLemmas.{up_to_none, up_to_here, up_to_done, up_to_other, numbering_of, one_more}
 
 -- ---- the codes of a run
 
@@ -48,63 +50,113 @@ pub run_within : (from size : ℕ) (codes : List (List ℕ)) (ls : List ℤ) (bs
     → IsRun (numbered 0 codes) from size ls bs → from + length ls ≤ length codes
 run_within from size codes ls bs run = omega (arith, run.within, length-numbered 0 codes)
 
-pub length-new : (from n : ℕ) (codes : List (List ℕ)) → from + n ≤ length codes → length (take n (drop from codes)) ≡ n
-length-new from n codes h = omega (arith, length-take n (drop from codes), length-drop from codes)
-
-pub length-old : (from : ℕ) (codes : List (List ℕ)) → from ≤ length codes → length (take from codes) ≡ from
-length-old from codes h = omega (arith, length-take from codes)
-
 -- ---- one map more
 
-module _ (b used i others from n : ℕ) (codes : List (List ℕ)) (maps : List (List (ℕ × ℕ))) (p r q : PoolLists)
-    (es : List (ℕ × ℕ)) (ks own : List ℕ) (here : i < length maps) (within : from + n ≤ length codes)
-    (m : AreMaps b used (up_to i (take (from + n) codes) (take from codes))
-    (up_to i (take (from + n) codes) (take from codes)) maps (lists_in p))
-    (count : others + length (map_at maps i) ≡ used) (are : ks ≡ map (key_in i b) (take n (drop from codes)))
-    (roomed : IsRoomed others (map_at maps i) es ks (length ks) own)
-    (u : IsUndoable others (map_at maps i) es p r)
-    (rows : (l : ℕ) → lists_in q l ≡ lists_in r l ++ put_on l own (marks from (length own))) where
-  abbrev old : List (List ℕ)
-  old = take from codes
+keys_none : (es : List (ℕ × ℕ)) → keys_of es ≡ [] → es ≡ []
+keys_none [] e = refl
+keys_none (x ∷ es) e = absurd cc
 
-  abbrev new : List (List ℕ)
-  new = take n (drop from codes)
+-- a map that is not made has no key
+pub unmade : (b used i : ℕ) (codes : List (List ℕ)) (maps : List (List (ℕ × ℕ))) (lists : ℕ → List Row)
+    → AreMaps b used (up_to i codes []) (up_to i codes []) maps lists → i < length maps → map_at maps i ≡ []
+unmade b used i codes maps lists m here = keys_none (map_at maps i)
+    ((m.each i here).keys ∙ ap (λ (cs : List (List ℕ)). firsts (map (key_in i b) cs)) (up_to_here i codes []))
 
-  abbrev all : List (List ℕ)
-  all = take (from + n) codes
+module _ (dim b i used : ℕ) (codes : List (List ℕ)) (maps : List (List (ℕ × ℕ))) (p : PoolLists)
+    (h : IsPartly dim b i used codes maps p) (here : i < length maps) where
+  abbrev n : ℕ
+  n = length codes
 
-  all_is : all ≡ old ++ new
-  all_is = take-add from n codes
+  pub none : map_at maps i ≡ []
+  none = unmade b used i codes maps (lists_in p) h.maps_are here
 
-  next_is : up_to (i + 1) all old i ≡ old ++ new
-  next_is = up_to_done (i + 1) i all old (omega arith) ∙ all_is
+  pub count : used + length (map_at maps i) ≡ used
+  count = omega (arith, ap length none)
 
-  pub many : length own ≡ n
-  many = roomed.count ∙ ap length are ∙ length-map new (key_in i b) ∙ length-new from n codes within
+  -- the keys and rows of a map more are few
+  pub next_few : (i + 1) * n ≤ lists_most
+  next_few =
+      let up : i + 1 ≤ length maps = omega arith in
+      omega (arith, mul-le-mul_right n up, (light dim (length maps) n h.load).0)
 
-  pub placed_roomed : AreMaps b (others + length es) (up_to (i + 1) all old) (up_to i all old) (set maps i es) (lists_in r)
-  placed_roomed = maps_roomed b used i (up_to i all old) (up_to i all old) (up_to (i + 1) all old) maps (lists_in p)
-      (lists_in r) es others old new ks own m here (up_to_here i all old) (up_to_here i all old) count are roomed u.least
-      u.rows next_is (λ j ne. up_to_other i j all old ne)
+  pub keys_few : used + length (map_at maps i) + n ≤ lists_most
+  keys_few = omega (arith, count, h.used_few, one_more i n, next_few)
 
-  found : (t : ℕ) → t < length new
-      → list_of (map_at (set maps i es) i) (key_in i b (get_or new t [])) ≡ Some (get_or own t 0)
-  found t low = ap (λ (fs : List (ℕ × ℕ)). list_of fs (key_in i b (get_or new t []))) (map_same maps i es here)
-      ∙ found_new b used i (up_to i all old) (up_to i all old) (up_to (i + 1) all old) maps (lists_in p)
-      (lists_in r) es others old new ks own m here (up_to_here i all old) (up_to_here i all old) count are roomed u.least
-      u.rows next_is (λ j ne. up_to_other i j all old ne) t low
+  pub rows_few : (l : ℕ) → length (lists_in p l) + n < 2 ^ 31
+  rows_few l = omega (arith, h.short l, one_more i n, next_few)
 
-  rows_new : (l : ℕ) → lists_in q l ≡ lists_in r l ++ put_on l own (marks (length old) (length new))
-  rows_new l = rows l
-      ∙ ap (λ (k : ℕ). lists_in r l ++ put_on l own (marks from k)) (many ∙ sym (length-new from n codes within))
-      ∙ ap (λ (k : ℕ). lists_in r l ++ put_on l own (marks k (length new))) (sym (length-old from codes (omega arith)))
+  pub numbering : IsNumbering (used + length (map_at maps i)) (map_at maps i)
+  numbering = numbering_of b used (up_to i codes []) (up_to i codes []) maps (lists_in p) i
+      (used + length (map_at maps i)) count h.maps_are
 
-  pub placed_more : AreMaps b (others + length es) (up_to (i + 1) all old) (up_to (i + 1) all old) (set maps i es)
-      (lists_in q)
-  placed_more = maps_put b (others + length es) i (up_to (i + 1) all old) (up_to i all old) (up_to (i + 1) all old)
-      (set maps i es) (lists_in r) (lists_in q) old new own placed_roomed (omega (arith, here, length-set maps i es))
-      (up_to_here i all old) (many ∙ sym (length-new from n codes within)) found rows_new next_is
-      (λ j ne. up_to_other i j all old ne)
+  pub key_within : (i + 1) * b ≤ dim
+  key_within =
+      let up : i + 1 ≤ length maps = omega arith in
+      omega (arith, mul-le-mul_right b up, h.within)
+
+  module _ (r q : PoolLists) (es : List (ℕ × ℕ)) (ks own : List ℕ) (are : ks ≡ map (key_in i b) codes)
+      (roomed : IsRoomed used (map_at maps i) es ks (length ks) own) (u : IsUndoable used (map_at maps i) es p r)
+      (rows : (l : ℕ) → lists_in q l ≡ lists_in r l ++ put_on l own (marks 0 (length own)))
+      (lists : length q.lists ≡ length r.lists) (size : q.code_size ≡ 0) where
+    next_is : up_to (i + 1) codes [] i ≡ [] ++ codes
+    next_is = up_to_done (i + 1) i codes [] (omega arith)
+
+    pub many : length own ≡ n
+    many = roomed.count ∙ ap length are ∙ length-map codes (key_in i b)
+
+    placed_roomed : AreMaps b (used + length es) (up_to (i + 1) codes []) (up_to i codes []) (set maps i es) (lists_in r)
+    placed_roomed = maps_roomed b used i (up_to i codes []) (up_to i codes []) (up_to (i + 1) codes []) maps (lists_in p)
+        (lists_in r) es used [] codes ks own h.maps_are here (up_to_here i codes []) (up_to_here i codes []) count are
+        roomed u.least u.rows next_is (λ j ne. up_to_other i j codes [] ne)
+
+    found : (t : ℕ) → t < n → list_of (map_at (set maps i es) i) (key_in i b (get_or codes t [])) ≡ Some (get_or own t 0)
+    found t low = ap (λ (fs : List (ℕ × ℕ)). list_of fs (key_in i b (get_or codes t []))) (map_same maps i es here)
+        ∙ found_new b used i (up_to i codes []) (up_to i codes []) (up_to (i + 1) codes []) maps (lists_in p)
+        (lists_in r) es used [] codes ks own h.maps_are here (up_to_here i codes []) (up_to_here i codes []) count are
+        roomed u.least u.rows next_is (λ j ne. up_to_other i j codes [] ne) t low
+
+    rows_n : (l : ℕ) → lists_in q l ≡ lists_in r l ++ put_on l own (marks 0 n)
+    rows_n l = rows l ∙ ap (λ (k : ℕ). lists_in r l ++ put_on l own (marks 0 k)) many
+
+    long : length (set maps i es) ≡ length maps
+    long = length-set maps i es
+
+    pub partly_more : IsPartly dim b (i + 1) (used + length es) codes (set maps i es) q
+    partly_more = record {
+      nhash_least = omega (arith, h.nhash_least, long);
+      nhash_most = omega (arith, h.nhash_most, long);
+      b_least = h.b_least;
+      b_most = h.b_most;
+      within = subst (λ (k : ℕ). k * b ≤ dim) (sym long) h.within;
+      made_most = omega (arith, long);
+      maps_are = maps_put b (used + length es) i (up_to (i + 1) codes []) (up_to i codes []) (up_to (i + 1) codes [])
+          (set maps i es) (lists_in r) (lists_in q) [] codes own placed_roomed (omega (arith, here, long))
+          (up_to_here i codes []) many found rows_n next_is (λ j ne. up_to_other i j codes [] ne);
+      shared = record {
+        size = size;
+        used_most = omega (arith, u.keys_most, lists);
+        lists_few = omega (arith, u.lists_few, lists, h.shared.lists_few);
+      };
+      places = λ l. places_put n l 0 n own (lists_in r l) (lists_in q l) (omega arith) (rows_n l)
+          (subst (All (IsPosition n)) (sym (u.rows l)) (h.places l));
+      short = λ l. omega (
+        arith,
+        length-put l 0 n own (lists_in r l) (lists_in q l) (rows_n l),
+        ap length (u.rows l),
+        h.short l,
+        one_more i n,
+      );
+      used_few = omega (
+        arith,
+        roomed.most,
+        ap length none,
+        ap length are,
+        length-map codes (key_in i b),
+        one_more i n,
+        h.used_few,
+      );
+      load = subst (λ (k : ℕ). weight dim k n 0 ≤ load_limit) (sym long) h.load;
+    }
 
 -- ---- all maps
 
@@ -120,57 +172,42 @@ both_same b used held other maps lists e m = record {
   few = m.few;
 }
 
-pub both_first : (b used : ℕ) (all old : List (List ℕ)) (maps : List (List (ℕ × ℕ))) (lists : ℕ → List Row)
-    → AreMaps b used (λ i. old) (λ i. old) maps lists → AreMaps b used (up_to 0 all old) (up_to 0 all old) maps lists
-both_first b used all old maps lists m = both_same b used (λ i. old) (up_to 0 all old) maps lists
-    (λ i low. up_to_none all old i) m
+-- no map is made
+pub partly_none : (dim b : ℕ) (codes : List (List ℕ)) (maps : List (List (ℕ × ℕ))) (p : PoolLists)
+    → IsMulti dim b 0 0 [] maps p → weight dim (length maps) (length codes) 0 ≤ load_limit
+    → IsPartly dim b 0 0 codes maps p
+partly_none dim b codes maps p h load = record {
+  nhash_least = h.nhash_least;
+  nhash_most = h.nhash_most;
+  b_least = h.b_least;
+  b_most = h.b_most;
+  within = h.within;
+  made_most = omega arith;
+  maps_are = both_same b 0 (λ i. []) (up_to 0 codes []) maps (lists_in p) (λ i low. up_to_none codes [] i) h.maps_are;
+  shared = h.shared;
+  places = λ l k d low. absurd (omega (arith, low, h.short l));
+  short = λ l. omega (arith, h.short l);
+  used_few = omega arith;
+  load = load;
+}
 
-pub both_last : (b used n : ℕ) (all old : List (List ℕ)) (maps : List (List (ℕ × ℕ))) (lists : ℕ → List Row)
-    → length maps ≤ n → AreMaps b used (up_to n all old) (up_to n all old) maps lists
-    → AreMaps b used (λ i. all) (λ i. all) maps lists
-both_last b used n all old maps lists h m = both_same b used (up_to n all old) (λ i. all) maps lists
-    (λ i low. sym (up_to_done n i all old (omega arith))) m
-
--- fewer codes weigh less
-pub fewer : (d maps n m : ℕ) → n ≤ m → weight d maps m 0 ≤ load_limit → weight d maps n 0 ≤ load_limit
-fewer d maps n m h load =
-    let k : n * (d / 8 + 16 + 64 * maps) ≤ m * (d / 8 + 16 + 64 * maps) = mul-le-mul_right (d / 8 + 16 + 64 * maps) h in
-    omega (arith, k)
-
--- the index of the codes up to the end of a run
-pub multi_placed : (dim b used keys from n : ℕ) (codes : List (List ℕ)) (before after : List (List (ℕ × ℕ)))
-    (p q : PoolLists) → IsMulti dim b 0 keys (take from codes) before p → length after ≡ length before
-    → from + n ≤ length codes → weight dim (length before) (length codes) 0 ≤ load_limit
-    → AreMaps b used (up_to (length after) (take (from + n) codes) (take from codes))
-    (up_to (length after) (take (from + n) codes) (take from codes)) after (lists_in q)
-    → IsShared used q → used ≤ keys + length after * n → ((l : ℕ) → All (IsPosition (from + n)) (lists_in q l))
-    → ((l : ℕ) → length (lists_in q l) ≤ length before * from + length after * n)
-    → IsMulti dim b 0 used (take (from + n) codes) after q
-multi_placed dim b used keys from n codes before after p q h same within load maps shared few places short =
-    let long : length (take (from + n) codes) ≡ from + n = length-old (from + n) codes within in
-    let was : length (take from codes) ≡ from = length-old from codes (omega arith) in
-    let total : length after * length (take (from + n) codes) ≡ length before * from + length after * n
-    = ap (λ (k : ℕ). length after * k) long ∙ more_codes (length after) from n
-    ∙ ap (λ (k : ℕ). k * from + length after * n) same in
+-- all maps are made
+pub partly_whole : (dim b n used : ℕ) (codes : List (List ℕ)) (maps : List (List (ℕ × ℕ))) (p : PoolLists)
+    → IsPartly dim b n used codes maps p → length maps ≤ n → IsMulti dim b 0 used codes maps p
+partly_whole dim b n used codes maps p h all =
+    let same : n ≡ length maps = omega (arith, h.made_most) in
     record {
-      nhash_least = omega (arith, h.nhash_least, same);
-      nhash_most = omega (arith, h.nhash_most, same);
+      nhash_least = h.nhash_least;
+      nhash_most = h.nhash_most;
       b_least = h.b_least;
       b_most = h.b_most;
-      within = subst (λ (k : ℕ). k * b ≤ dim) (sym same) h.within;
+      within = h.within;
       flips_most = omega arith;
-      maps_are = both_last b used (length after) (take (from + n) codes) (take from codes) after (lists_in q)
-          (omega arith) maps;
-      shared = shared;
-      places = λ l. subst (λ (k : ℕ). All (IsPosition k) (lists_in q l)) (sym long) (places l);
-      short = λ l. omega (arith, short l, total);
-      used_few = omega (
-        arith,
-        few,
-        h.used_few,
-        total,
-        ap (λ (k : ℕ). length before * k) was,
-      );
-      load = subst (λ (k : ℕ). weight dim k (length (take (from + n) codes)) 0 ≤ load_limit) (sym same)
-          (fewer dim (length before) (length (take (from + n) codes)) (length codes) (omega (arith, long)) load);
+      maps_are = both_same b used (up_to n codes []) (λ i. codes) maps (lists_in p)
+          (λ i low. sym (up_to_done n i codes [] (omega (arith, low, all)))) h.maps_are;
+      shared = h.shared;
+      places = h.places;
+      short = λ l. subst (λ (k : ℕ). length (lists_in p l) ≤ k * length codes) same (h.short l);
+      used_few = subst (λ (k : ℕ). used ≤ k * length codes) same h.used_few;
+      load = h.load;
     }

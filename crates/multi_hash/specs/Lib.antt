@@ -5,3 +5,4 @@ pub mod Sharp
 pub mod Inside
 pub mod Room
 pub mod Meet
+pub mod Partly

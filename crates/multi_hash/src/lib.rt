@@ -3,6 +3,7 @@
 #![tactic(auto)]
 
 mod compare;
+mod keys;
 pub mod laws;
 mod meet;
 mod multi;
@@ -13,6 +14,7 @@ mod seen;
 mod tables;
 mod wide;
 
-pub use multi::Multi;
+pub use keys::keys_under;
+pub use multi::{Building, Multi};
 pub use seen::Seen;
 pub use wide::Wide;

@@ -1,3 +1,5 @@
+mod building;
+
 ghost use Rattle.std.specs.Prelude.{◌≡◌, ◌+◌, ◌*◌, ◌/◌, ◌<◌, ◌≤◌, [], ◌++◌, length, nat_eq, position};
 ghost use Rattle.std.specs.Prelude.{slice_index, slice_index_or, IfOk, OnOk, OnErr};
 ghost use Rattle.bcodes.specs.Ranges.{load_limit, raised};
@@ -15,6 +17,7 @@ use crate::put::put_all;
 use crate::room::store;
 use crate::tables::{empty_tables, first_of_one_key, keep_first, key_counts, table};
 use bcodes::{Addable, BinaryIndex, Codes, Dim, Hits, KeySettings, Ledger, Meter, Want};
+pub use building::Building;
 use code_pool::Pool;
 use flat_index::Flat;
 use hit_lists::{BestK, RangeHits};

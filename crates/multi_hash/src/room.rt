@@ -5,7 +5,7 @@ ghost use Rattle.bcodes.specs.Value.{weight};
 ghost use Rattle.code_pool.specs.Lists.{list_at};
 ghost use Rattle.flip_walk.specs.Patterns.{times};
 ghost use Rattle.key_buckets.specs.Keys.{IsNumbering};
-ghost use Rattle.key_buckets.specs.Room.{IsRoomed, IsUndoable, lists_most};
+ghost use Rattle.key_buckets.specs.Room.{IsRoomed, IsUndoable, keys_named, lists_most};
 ghost use Rattle.row_lists.specs.Room.{HasRoomFor};
 ghost use Rattle.multi_hash.specs.Inside.{AreMaps, IsShared, lists_in, map_at};
 ghost use Rattle.multi_hash.specs.Room.{AreUndoable, IsRoomy, lists_under};
@@ -14,7 +14,7 @@ use crate::tables::table;
 use bcodes::{Codes, Ledger, Want};
 use code_pool::Pool;
 use flat_index::Flat;
-use key_buckets::{KeyTable, chunk_keys, make_room};
+use key_buckets::{KeyTable, chunk_keys, make_named_room, make_room};
 use std::alloc::Global;
 
 /// What an add has made room for.
@@ -145,4 +145,34 @@ pub fn make_room_under<L: Ledger>(
 {
     let numbers = make_room(alloc, &mut maps[i], buckets, keys, others)?;
     Ok(numbers)
+}
+
+/// `make_room_under` for keys that are known by their numbers.
+pub fn make_named_room_under<L: Ledger>(
+    alloc: Global,
+    maps: &mut [KeyTable],
+    i: usize,
+    buckets: &mut Pool<L>,
+    keys: &[u64],
+    numbers: &[u32],
+    others: u32,
+) -> Result<Vec<u32>, Want>
+    requires exists { i < length maps.old }
+    requires known { All (λ n. n < length keys.now) numbers.now }
+    requires numbering { IsNumbering (others + length (map_at maps.old i)) (map_at maps.old i) }
+    requires used { others + length (map_at maps.old i) ≤ length buckets.old.lists }
+    requires lists { length buckets.old.lists ≤ lists_most }
+    requires few { others + length (map_at maps.old i) + length numbers.now ≤ lists_most }
+    requires rows { (l : ℕ) → length (list_at buckets.old l).rows + length numbers.now < 2 ^ 31 }
+    ensures maps { maps.new ≡ slice_set maps.old i (map_at maps.new i) }
+    ensures roomed { IfOk result (λ lists. let named = keys_named keys.now numbers.now in
+        IsRoomed others (map_at maps.old i) (map_at maps.new i) named (length named) lists.items) }
+    ensures room { IfOk result (λ lists. HasRoomFor lists.items buckets.new) }
+    ensures spare { IfOk result (λ lists. (l : ℕ) → times l lists.items ≡ 0
+        → (list_at buckets.old l).spare ≤ (list_at buckets.new l).spare) }
+    ensures undo { IsUndoable others (map_at maps.old i) (map_at maps.new i) buckets.old
+        buckets.new }
+{
+    let lists = make_named_room(alloc, &mut maps[i], buckets, keys, numbers, others)?;
+    Ok(lists)
 }
