@@ -69,7 +69,7 @@ impl Rows {
         self.labels.reserve(more)?;
         self.codes.reserve(more * self.code_size)?;
         fill(&mut self.labels, n, 0);
-        fill(&mut self.codes, n * self.code_size, 0);
+        fill_bytes(&mut self.codes, n * self.code_size);
         Ok(())
     }
 
@@ -177,6 +177,26 @@ fn copy_code(codes: &mut Vec<u8>, rows: usize, code_size: usize, from: usize, to
 {
     let start = from * code_size;
     codes.copy_within(start..start + code_size, to * code_size);
+}
+
+// The zeros that a table of bytes is filled with, so many at a time.
+const ZEROS: [u8; 4_096] = [0; 4_096];
+
+// Makes a table of bytes n long, in the room that it has. It copies zeros, since `resize` writes
+// them one by one.
+fn fill_bytes(bytes: &mut Vec<u8>, n: usize)
+    requires more { vec_len bytes.old ≤ n }
+    requires room { n ≤ vec_capacity bytes.old }
+    ensures { bytes.new.items
+        ≡ bytes.old.items ++ replicate (n - length bytes.old.items) 0 }
+{
+    while bytes.len() < n {
+        let more = (n - bytes.len()).min(ZEROS.len());
+        match bytes.extend_from_slice(&ZEROS[..more]) {
+            Ok(()) => {}
+            Err(_) => unreachable!(),
+        }
+    }
 }
 
 // Makes a table n entries long, in the room that it has.

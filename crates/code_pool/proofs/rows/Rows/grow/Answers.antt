@@ -61,8 +61,8 @@ fill-requires-clause-more c =
       length-rows_in c.self.inside.code_size c.self.inside.labels.items c.self.inside.codes.items,
     )
 
-pub fill-requires-2-clause-more : goal.fill-requires-2-clause-more
-fill-requires-2-clause-more c =
+pub fill_bytes-requires-clause-more : goal.fill_bytes-requires-clause-more
+fill_bytes-requires-clause-more c =
     let labels = c.self.inside.labels.items in
     let size = c.self.inside.code_size in
     let low : length labels ≤ c.args.n = omega (
@@ -74,8 +74,8 @@ fill-requires-2-clause-more c =
     let most : length labels * size ≤ c.args.n * size = mul-le-mul_right size low in
     omega (arith, c.in_ok-reserve-2.ensures.len, c.self.inside.codes.ok.0, c.self.invariant.whole)
 
-pub fill-requires-2-clause-room : goal.fill-requires-2-clause-room
-fill-requires-2-clause-room c =
+pub fill_bytes-requires-clause-room : goal.fill_bytes-requires-clause-room
+fill_bytes-requires-clause-room c =
     let labels = c.self.inside.labels.items in
     let size = c.self.inside.code_size in
     let low : length labels ≤ c.args.n = omega (
@@ -113,7 +113,7 @@ pub returns-clause-rows : goal.returns-clause-rows
 returns-clause-rows c =
     rw (
       c.fill.ensures,
-      c.fill-2.ensures,
+      c.fill_bytes.ensures,
       c.in_ok-reserve.ensures.items,
       c.in_ok-reserve-2.ensures.items,
       ← c.self.view_is,
