@@ -14,6 +14,7 @@ pub mod Width
 pub mod HashGroups
 pub mod HashRun
 pub mod HashLaw
+pub mod GatheredLemmas
 pub mod HashReading
 pub mod HashRunReading
 pub mod MultiRun

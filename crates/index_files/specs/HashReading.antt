@@ -51,9 +51,11 @@ pub record GainsRows (role : Role) (total n : ℕ) (old new : HashValue) : Type 
   pub pass : PassIds role total ids
   pub gains : Gains ids old new
 
--- rows for a Hash of codes of so many bits, and the code that was read last
+-- rows of a bucket for a Hash of codes of so many bits and keys of b bits, and the code that was read last
 pub record GatheredRows : Type 0 where
   pub dim : ℕ
+  pub b : ℕ
+  pub key : ℕ
   pub code : List ℕ
   pub rows : List Row
 

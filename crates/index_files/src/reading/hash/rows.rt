@@ -9,7 +9,7 @@ ghost use Rattle.index_files.specs.FlatFormat.{is_inside, is_no_place};
 ghost use Rattle.index_files.specs.HashFormat.{all_rows, bucket_id, bucket_rows};
 ghost use Rattle.index_files.specs.HashFormat.{buckets_in, hash_run_checks, rows_under};
 ghost use Rattle.index_files.specs.HashReading.{Gains, GainsRows, IsPacking, PassIds};
-ghost use Rattle.index_files.specs.HashReading.{behind_rows, joined, key_size, run_bytes};
+ghost use Rattle.index_files.specs.HashReading.{behind_rows, key_size, run_bytes};
 
 use crate::reading::hash::bucket::Bucket;
 use crate::reading::hash::gathered::Gathered;
@@ -48,7 +48,7 @@ pub fn read_all_rows<H: Shelf>(
         (IsErrOf result PartError.Failed) }
     ensures gains { OnOk result (GainsRows role packing.total packing.total hash.old hash.new) }
 {
-    let mut gathered = Gathered::new(alloc, hash.dim())?;
+    let mut gathered = Gathered::new(alloc, hash.dim(), hash.b())?;
     let mut ids = Vec::new(alloc);
     let mut bits = BitReader::new(run);
     for _ in 0..packing.count {
@@ -63,11 +63,11 @@ pub fn read_all_rows<H: Shelf>(
             hash,
         )?;
     }
-    gathered.put_into(hash)?;
     Ok(())
 }
 
-// The rows of a bucket, gathered behind those that the index has. The vector is for its ids.
+// The rows of a bucket, put behind those that the index has. The vector is for its ids, and its
+// rows are gathered in between.
 fn read_bucket<H: Shelf>(
     feed: &mut Feed<'_, H>,
     role: Role,
@@ -79,17 +79,16 @@ fn read_bucket<H: Shelf>(
 ) -> Result<(), PartError>
     requires reading { IsTrue (H.is_reading (shelf_of feed.old)) }
     requires dim { gathered.old.dim ≡ hash.old.dim }
-    requires load { weight hash.old.dim 1
-        (length hash.old.rows + length gathered.old.rows + bucket.size) 0 ≤ load_limit }
-    ensures gives { GivesField H.contents (λ _. hash.new.rows ++ gathered.new.rows)
-        (behind_rows (hash.old.rows ++ gathered.old.rows)
+    requires b { gathered.old.b ≡ hash.old.b }
+    requires load { weight hash.old.dim 1 (length hash.old.rows + bucket.size) 0 ≤ load_limit }
+    ensures gives { GivesField H.contents (λ _. hash.new.rows) (behind_rows hash.old.rows
         (bucket_rows role (hash.old.dim / 8) total hash.old.b (key_size bucket)))
         feed.old feed.new result }
     ensures shelf { StaysOver H.contents H.is_reading H.faults feed.old feed.new
         (IsErrOf result PartError.Failed) }
-    ensures gains { OnOk result (GainsRows role total bucket.size
-        (joined gathered.old hash.old) (joined gathered.new hash.new)) }
+    ensures gains { OnOk result (GainsRows role total bucket.size hash.old hash.new) }
     ensures dim { OnOk result (gathered.new.dim ≡ hash.new.dim) }
+    ensures b { OnOk result (gathered.new.b ≡ hash.new.b) }
 {
     let dim = hash.dim();
     read_wanted(feed, bucket.size, Reason::VectorSize)?;
@@ -151,7 +150,7 @@ fn is_out(role: Role, total: u64, id: i64) -> bool
     }
 }
 
-// The codes of a bucket, gathered under their ids behind the rows that the index has.
+// The codes of a bucket, put under their ids behind the rows that the index has.
 fn read_codes<H: Shelf>(
     feed: &mut Feed<'_, H>,
     bucket: Bucket,
@@ -162,25 +161,25 @@ fn read_codes<H: Shelf>(
     requires reading { IsTrue (H.is_reading (shelf_of feed.old)) }
     requires count { length ids.now ≡ bucket.size }
     requires dim { gathered.old.dim ≡ hash.old.dim }
-    requires load { weight hash.old.dim 1
-        (length hash.old.rows + length gathered.old.rows + bucket.size) 0 ≤ load_limit }
-    ensures gives { GivesField H.contents (λ _. hash.new.rows ++ gathered.new.rows)
-        (behind_rows (hash.old.rows ++ gathered.old.rows)
+    requires b { gathered.old.b ≡ hash.old.b }
+    requires load { weight hash.old.dim 1 (length hash.old.rows + bucket.size) 0 ≤ load_limit }
+    ensures gives { GivesField H.contents (λ _. hash.new.rows) (behind_rows hash.old.rows
         (rows_under (hash.old.dim / 8) hash.old.b (key_size bucket) ids.now))
         feed.old feed.new result }
     ensures shelf { StaysOver H.contents H.is_reading H.faults feed.old feed.new
         (IsErrOf result PartError.Failed) }
-    ensures gains { OnOk result (Gains ids.now
-        (joined gathered.old hash.old) (joined gathered.new hash.new)) }
+    ensures gains { OnOk result (Gains ids.now hash.old hash.new) }
     ensures dim { OnOk result (gathered.new.dim ≡ hash.new.dim) }
+    ensures b { OnOk result (gathered.new.b ≡ hash.new.b) }
 {
-    let b = hash.b();
     // For the proof that keys have 1 to 64 bits, and no more than a code.
     let _dim = hash.dim();
+    gathered.begin(bucket.key);
     for i in 0..ids.len() {
         gathered.put_if_full(hash)?;
-        gathered.read_code(feed, b, bucket.key)?;
+        gathered.read_code(feed)?;
         gathered.push(ids[i])?;
     }
+    gathered.put_into(hash)?;
     Ok(())
 }

@@ -6,7 +6,7 @@ use Rattle.bcodes.specs.Value.{Row}
 use Rattle.file_parts.specs.Format.{run}
 use Rattle.file_parts.specs.Feeding.{place}
 use Rattle.index_files.specs.HashFormat.{KeySize, all_rows, bucket_at, buckets_in}
-use Rattle.index_files.specs.HashReading.{GainsRows, joined}
+use Rattle.index_files.specs.HashReading.{GainsRows}
 use Rattle.index_files.proofs.HashReading.{bucket_fails, bucket_load, bucket_read, buckets_done, gains_more, gains_none}
 use Rattle.index_files.proofs.HashReading.{gains_rows, keeps_same, rows_start}
 use Rattle.index_files.proofs.HashRunReading.{bucket_is, from, from_all, from_next, from_none, next_at, passed_total}
@@ -19,23 +19,19 @@ loop-init g c =
     let p = c.args.packing in
     let run = c.args.run.now in
     let hash = c.args.hash.now in
-    let gathered = c.in_ok-gathered.gathered in
-    let rows : hash.rows ++ gathered.rows ≡ [] = ap (λ (rows : List Row). rows ++ gathered.rows) c.requires.none
-    ∙ c.in_ok-gathered.ensures.none in
-    let none : length (hash.rows ++ gathered.rows) ≡ 0 = ap length rows in
-    let same : joined gathered hash ≡ hash = ap (λ (rows : List Row). record hash { rows = rows })
-    (rows ∙ sym c.requires.none) in
+    let none : length hash.rows ≡ 0 = ap length c.requires.none in
     record {
       dim = c.in_ok-gathered.ensures.dim ∙ c.dim.ensures.value;
+      b = c.in_ok-gathered.ensures.b ∙ c.b.ensures;
       bytes = ap (λ r. r.bytes) c.new-bits.ensures;
       at = ap (λ r. r.at) c.new-bits.ensures ∙ omega arith;
       gains =
-          subst (λ n. GainsRows c.args.role p.total n hash (joined gathered hash)) (sym none)
-          (subst (GainsRows c.args.role p.total 0 hash) (sym same) (gains_none c.args.role p.total hash));
+          subst (λ n. GainsRows c.args.role p.total n hash hash) (sym none)
+          (gains_none c.args.role p.total hash);
       total = omega (arith, none, passed_total run p.b p.width p.count p.total c.requires.passes);
-      so_far = λ told. rows_start c.args.role (hash.dim / 8) p.total p.b (hash.rows ++ gathered.rows)
+      so_far = λ told. rows_start c.args.role (hash.dim / 8) p.total p.b hash.rows
           (from run p.b p.width p.count 0) (buckets_in run p.b p.width p.count)
-          (place g.H.Shelf.contents c.args.feed.now) rows (from_all run p.b p.width p.count);
+          (place g.H.Shelf.contents c.args.feed.now) c.requires.none (from_all run p.b p.width p.count);
       same_shelf = refl;
       files = keeps_same _;
       reading = refl;
@@ -50,14 +46,13 @@ read_bucket-requires-clause-load g c =
     let bucket = bucket_is run p.b p.width c.loop.counter c.next_bucket-bucket.result.key
     c.next_bucket-bucket.result.size c.loop.bits.bytes c.loop.bits.at inv.bytes inv.at
     c.next_bucket-bucket.ensures.key c.next_bucket-bucket.ensures.size in
-    bucket_load c.args.hash.now.dim c.loop.hash.dim (length c.loop.hash.rows + length c.loop.gathered.rows)
+    bucket_load c.args.hash.now.dim c.loop.hash.dim (length c.loop.hash.rows)
     c.next_bucket-bucket.result.size
     (sum (sizes run p.b p.width p.count (c.loop.counter + 1))) p.total
     (ap (λ v. v.dim) inv.gains.gains.settings) c.requires.load
     (omega (
       arith,
       inv.total,
-      length-append c.loop.hash.rows c.loop.gathered.rows,
       sizes_next run p.b p.width p.count c.loop.counter c.loop-test.true,
       ap (λ (k : KeySize). k.size) bucket,
     ))
@@ -79,7 +74,7 @@ returns-in_err-read_bucket-clause-gives g c = λ told. (
     let r = err_from_is_err_and c.from_residual-in_err-read_bucket.result
     c.from_residual-in_err-read_bucket.ensures.1 in
     rw (r.1, r.2) (bucket_fails c.args.role (hash.dim / 8) p.total p.b c.in_err-read_bucket.field-0.0
-    (c.loop.hash.rows ++ c.loop.gathered.rows)
+    c.loop.hash.rows
     (bucket_at run_bytes p.b p.width c.loop.counter) (from run_bytes p.b p.width p.count (c.loop.counter + 1)) at
     (run (all_rows c.args.role (hash.dim / 8) p.total p.b (buckets_in run_bytes p.b p.width p.count))
     (place g.H.Shelf.contents c.args.feed.now)) fails so_far))
@@ -94,8 +89,8 @@ loop-preserved g c =
     let to = place g.H.Shelf.contents c.read_bucket.new.feed in
     let i : ℕ = c.loop.counter in
     let size : ℕ = c.next_bucket-bucket.result.size in
-    let old = joined c.loop.gathered c.loop.hash in
-    let new = joined c.read_bucket.new.gathered c.read_bucket.new.hash in
+    let old = c.loop.hash in
+    let new = c.read_bucket.new.hash in
     let bucket = bucket_is run_bytes p.b p.width i c.next_bucket-bucket.result.key size
     c.loop.bits.bytes c.loop.bits.at inv.bytes inv.at
     c.next_bucket-bucket.ensures.key c.next_bucket-bucket.ensures.size in
@@ -106,6 +101,7 @@ loop-preserved g c =
     let moved = c.next_bucket-bucket.ensures.moved in
     record {
       dim = c.in_ok-read_bucket.ensures.dim;
+      b = c.in_ok-read_bucket.ensures.b;
       bytes = ap (λ r. r.bytes) moved ∙ inv.bytes;
       at = ap (λ r. r.at) moved ∙ ap (λ (n : ℕ). n + p.b + p.width) inv.at ∙ next_at p.b p.width i;
       gains = subst (λ n. GainsRows c.args.role p.total n hash new) (sym count)
@@ -130,16 +126,6 @@ loop-preserved g c =
       count_stays = search rules;
     }
 
--- the rows that are still gathered weigh no more than all
-pub put_into-requires-clause-load : goal.put_into-requires-clause-load
-put_into-requires-clause-load g c =
-    let p = c.args.packing in
-    let inv = c.loop.invariant in
-    bucket_load c.args.hash.now.dim c.loop.hash.dim (length c.loop.hash.rows) (length c.loop.gathered.rows)
-    (sum (sizes c.args.run.now p.b p.width p.count c.loop.counter)) p.total
-    (ap (λ v. v.dim) inv.gains.gains.settings) c.requires.load
-    (omega (arith, inv.total, length-append c.loop.hash.rows c.loop.gathered.rows))
-
 pub returns-clause-gives : goal.returns-clause-gives
 returns-clause-gives g c = λ told. (
     let p = c.args.packing in
@@ -147,8 +133,8 @@ returns-clause-gives g c = λ told. (
     let run_bytes = c.args.run.now in
     let hash = c.args.hash.now in
     let so_far = rw (from_none run_bytes p.b p.width p.count c.loop.counter c.loop-test.false) at (inv.so_far told) in
-    rw c.in_ok-put_into.ensures.hash (buckets_done c.args.role (hash.dim / 8) p.total p.b
-    (c.loop.hash.rows ++ c.loop.gathered.rows) (place g.H.Shelf.contents c.loop.feed)
+    (buckets_done c.args.role (hash.dim / 8) p.total p.b
+    c.loop.hash.rows (place g.H.Shelf.contents c.loop.feed)
     (run (all_rows c.args.role (hash.dim / 8) p.total p.b (buckets_in run_bytes p.b p.width p.count))
     (place g.H.Shelf.contents c.args.feed.now)) so_far))
 
@@ -157,6 +143,5 @@ returns-clause-gains g c =
     let p = c.args.packing in
     let inv = c.loop.invariant in
     let none = sizes_none c.args.run.now p.b p.width p.count c.loop.counter c.loop-test.false in
-    let all : length (c.loop.hash.rows ++ c.loop.gathered.rows) ≡ p.total = omega (arith, inv.total, none) in
-    rw c.in_ok-put_into.ensures.hash (subst (λ n. GainsRows c.args.role p.total n c.args.hash.now
-    (joined c.loop.gathered c.loop.hash)) all inv.gains)
+    let all : length c.loop.hash.rows ≡ p.total = omega (arith, inv.total, none) in
+    subst (λ n. GainsRows c.args.role p.total n c.args.hash.now c.loop.hash) all inv.gains

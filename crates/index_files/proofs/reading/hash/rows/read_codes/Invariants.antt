@@ -13,12 +13,14 @@ abbrev pub invariant-loop-i : goal.invariant-loop-i
 invariant-loop-i g l = record {
   within : l.i ≤ length l.ids;
   dim : l.gathered.dim ≡ l.hash.dim;
+  b : l.gathered.b ≡ l.hash.b;
+  key : l.gathered.key ≡ l.fn.bucket.key;
   codes : (cs : List (List ℕ)) × (length cs ≡ l.i)
-      × (joined l.gathered l.hash ≡ with_codes (joined l.fn.gathered l.fn.hash) cs l.ids)
+      × (joined l.gathered l.hash ≡ with_codes l.fn.hash cs l.ids)
       × (IsTold (g.H.Shelf.contents (shelf_of l.fn.feed))
-      → with_front cs (run (repeated (length l.ids - l.i) (bucket_code (l.fn.hash.dim / 8) l.fn.hash.b l.bucket.key))
+      → with_front cs (run (repeated (length l.ids - l.i) (bucket_code (l.fn.hash.dim / 8) l.fn.hash.b l.fn.bucket.key))
       (place g.H.Shelf.contents l.feed))
-      ≡ run (repeated (length l.ids) (bucket_code (l.fn.hash.dim / 8) l.fn.hash.b l.bucket.key))
+      ≡ run (repeated (length l.ids) (bucket_code (l.fn.hash.dim / 8) l.fn.hash.b l.fn.bucket.key))
       (place g.H.Shelf.contents l.fn.feed));
   same_shelf : name_of l.feed ≡ name_of l.fn.feed;
   files : KeepsFiles (g.H.Shelf.contents (shelf_of l.fn.feed)) (g.H.Shelf.contents (shelf_of l.feed));
