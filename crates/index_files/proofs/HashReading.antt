@@ -9,9 +9,8 @@ use Rattle.std.proofs.lemmas.Nat.{mul-le}
 use Rattle.std.proofs.Math.Nat.{mul-le-mul_right}
 use Rattle.std.proofs.lemmas.List.{append-nil, length-map, map-append}
 use Rattle.std.proofs.lemmas.List.Elements.{All-nil, All-cons, All-head, All-tail, All-append}
-use Rattle.bcodes.specs.Answers.{after_add, paired}
 use Rattle.bcodes.specs.Ranges.{load_limit}
-use Rattle.bcodes.specs.Value.{Row, HashValue, Hash, Bare, IsPlace, load_of, weight}
+use Rattle.bcodes.specs.Value.{Row, HashValue, Hash, IsPlace, weight}
 use Rattle.file_parts.specs.declared.file_fault.FileFault.{FileFault}
 use Rattle.file_parts.specs.declared.head.Head.{Head}
 use Rattle.file_parts.specs.declared.part_error.PartError.{PartError}
@@ -409,26 +408,6 @@ rows_start role size total b front ps qs at none same =
     ∙ ap (λ (qs : List KeySize). run (all_rows role size total b qs) at) same
 
 -- ---- codes that are added
-
-length-paired : (ids : List ℤ) (cs : List (List ℕ)) → length (paired ids cs) ≤ length cs
-length-paired ids [] = omega arith
-length-paired [] (c ∷ cs) = omega arith
-length-paired (z ∷ ids) (c ∷ cs) = omega (arith, length-paired ids cs)
-
-pub added_load : (v : HashValue) (d m : ℕ) (ids : List ℤ) (cs : List (List ℕ)) → v.dim ≡ d
-    → length v.rows + length cs ≤ m → weight d 1 m 0 ≤ load_limit
-    → load_of (after_add (Bare (Hash v)) ids cs) ≤ load_limit
-unfolding after_add
-added_load v d m ids cs same few load =
-    let less : length (v.rows ++ paired ids cs) ≤ m =
-    omega (arith, length-append v.rows (paired ids cs), length-paired ids cs, few) in
-    weigh_fewer v.dim (length (v.rows ++ paired ids cs)) m less
-    (subst (λ d. weight d 1 m 0 ≤ load_limit) (sym same) load)
-
-pub hash_added : (v w : HashValue) (ids : List ℤ) (cs : List (List ℕ))
-    → Bare (Hash w) ≡ after_add (Bare (Hash v)) ids cs → w ≡ record v { rows = v.rows ++ paired ids cs }
-unfolding after_add
-hash_added v w ids cs e = cc
 
 -- a hash with the codes behind the rows that it had
 abbrev pub with_codes : HashValue → List (List ℕ) → List ℤ → HashValue

@@ -1,8 +1,7 @@
-use Rattle.std.proofs.Common.{◌≡◌, ℕ, ◌+◌, ◌/◌, ◌++◌, [], List, length, length-append, refl, sym, ap, subst, ◌∙◌}
+use Rattle.std.proofs.Common.{◌≡◌, ℕ, ◌+◌, ◌/◌, length, refl, sym, ap, subst, ◌∙◌}
 use Rattle.std.proofs.Common.{arith, rules}
 use Rattle.std.specs.Prelude.{sum}
 use Rattle.std.proofs.lemmas.Result.{err_from_is_err_and}
-use Rattle.bcodes.specs.Value.{Row}
 use Rattle.file_parts.specs.Format.{run}
 use Rattle.file_parts.specs.Feeding.{place}
 use Rattle.index_files.specs.HashFormat.{KeySize, all_rows, bucket_at, buckets_in}

@@ -1,4 +1,4 @@
-use Rattle.std.proofs.Common.{◌≡◌, ◌+◌, ◌*◌, ◌/◌, ◌++◌, length}
+use Rattle.std.proofs.Common.{◌≡◌, ◌+◌, ◌*◌, ◌/◌, length}
 use Rattle.std.specs.Prelude.{sum}
 use Rattle.outside.specs.Calls.{KeepsFiles}
 use Rattle.file_parts.specs.Format.{run}

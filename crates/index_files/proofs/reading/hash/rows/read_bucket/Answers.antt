@@ -1,4 +1,4 @@
-use Rattle.std.proofs.Common.{◌/◌, ◌++◌, sym, ◌∙◌}
+use Rattle.std.proofs.Common.{◌/◌, sym, ◌∙◌}
 use Rattle.std.proofs.lemmas.Result.{err_from_is_err_and}
 use Rattle.file_parts.specs.Feeding.{place}
 use Rattle.index_files.specs.Counts.{known_count}

@@ -1,7 +1,7 @@
 use Rattle.std.proofs.Common.{rules, ◌≡◌, ℕ, ◌+◌, ◌*◌, ◌/◌, ◌<◌, ◌++◌, [], ◌∷◌, length, drop, refl, sym, ap, subst}
 use Rattle.std.proofs.Common.{◌≤◌, ◌∙◌, arith, length-append, List, ℤ, pos, FitsSigned, to_z, of_z, w64}
 use Rattle.std.specs.Prelude.{slice_index_or}
-use Rattle.std.proofs.lemmas.List.{append-nil, drop_more}
+use Rattle.std.proofs.lemmas.List.{drop_more}
 use Rattle.bcodes.specs.Bits.{key as key_of}
 use Rattle.std.proofs.lemmas.Int.{to_z-of_z}
 use Rattle.std.proofs.lemmas.Result.{err_from_is_err_and}
