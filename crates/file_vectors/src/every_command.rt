@@ -2,6 +2,7 @@
 ghost use Rattle.std.specs.Prelude.{◌<◌};
 
 use crate::bytes::{DIRECT, FLAT, MULTI};
+use crate::expect::{expect, expect_at, expect_file};
 use crate::pairs::{Pair, replies_to, script_of};
 use crate::short_sink::ShortSink;
 use faissb_core::{Status, run};
@@ -101,9 +102,9 @@ fn check_files<R: Abort>(rt: &R, shelf: &MemShelf, lines: usize) {
         3 => (Some(FLAT), Some(DIRECT), Some(MULTI)),
         _ => (Some(DIRECT), Some(DIRECT), Some(MULTI)),
     };
-    assert_eq!(rt; shelf.get("a"), a, "after {lines} lines");
-    assert_eq!(rt; shelf.get("b"), b, "after {lines} lines");
-    assert_eq!(rt; shelf.get("c"), c, "after {lines} lines");
+    expect_file(rt, shelf, "a", a);
+    expect_file(rt, shelf, "b", b);
+    expect_file(rt, shelf, "c", c);
 }
 
 fn run_over<S: Source, K: Sink>(
@@ -116,27 +117,89 @@ fn run_over<S: Source, K: Sink>(
     Ok(run(alloc, &words, source, sink, shelf))
 }
 
+// The number of lines that end in the first bytes.
+fn lines_in(script: &str, len: usize) -> usize {
+    script.bytes().take(len).filter(|b| *b == b'\n').count()
+}
+
+// The replies are those to the first lines, and the files those that these leave.
+fn check_lines<R: Abort>(
+    rt: &R,
+    alloc: Global,
+    found: (&str, Status),
+    shelf: &MemShelf,
+    lines: usize,
+    status: Status,
+) -> Result<(), Fail> {
+    let replies = replies(alloc, lines)?;
+    expect(rt, found, (replies.as_str(), status), "every command");
+    check_files(rt, shelf, lines);
+    Ok(())
+}
+
+fn check_read<R: Abort>(rt: &R, alloc: Global, script: &str, call: usize) -> Result<(), Fail> {
+    let mut source = MemSource::new(alloc, script.as_bytes())?;
+    source.most(7);
+    source.fail_at(call as u64)?;
+    let mut sink = MemSink::new(alloc);
+    let mut shelf = MemShelf::new(alloc);
+    let status = run_over(alloc, &mut source, &mut sink, &mut shelf)?;
+    let text = std::str::from_utf8(sink.as_slice())?;
+    let lines = lines_in(script, call.saturating_mul(7));
+    check_lines(
+        rt,
+        alloc,
+        (text, status),
+        &shelf,
+        lines,
+        Status::ScriptFault,
+    )
+}
+
 // The lines that were read whole are applied and answered. The last read meets the end.
 #[test]
 fn any_read_may_fail(rt: HostRuntime) -> Result<(), Fail> {
     let script = script(rt.alloc())?;
     for call in 0..=script.len().div_ceil(7) {
-        let mut source = MemSource::new(rt.alloc(), script.as_bytes())?;
-        source.most(7);
-        source.fail_at(call as u64)?;
-        let mut sink = MemSink::new(rt.alloc());
-        let mut shelf = MemShelf::new(rt.alloc());
-        let status = run_over(rt.alloc(), &mut source, &mut sink, &mut shelf)?;
-        let taken = script.as_bytes().iter().take(call.saturating_mul(7));
-        let lines = taken.filter(|b| **b == b'\n').count();
-        assert_eq!(rt; status, Status::ScriptFault, "read {call}");
-        assert_eq!(rt;
-            sink.as_slice(),
-            replies(rt.alloc(), lines)?.as_bytes(),
-            "read {call}"
-        );
-        check_files(&rt, &shelf, lines);
+        check_read(&rt, rt.alloc(), script.as_str(), call)?;
     }
+    Ok(())
+}
+
+// A run of which the write of this number fails. Writes take so many bytes at most.
+fn written(
+    alloc: Global,
+    script: &str,
+    most: usize,
+    call: u64,
+    shelf: &mut MemShelf,
+) -> Result<(String, Status), Fail> {
+    let mut source = MemSource::new(alloc, script.as_bytes())?;
+    let mut sink = ShortSink::failing(alloc, most, call)?;
+    let status = run_over(alloc, &mut source, &mut sink, shelf)?;
+    let text = std::str::from_utf8(sink.as_slice())?;
+    Ok((String::from_str(alloc, text)?, status))
+}
+
+fn check_write<R: Abort>(
+    rt: &R,
+    alloc: Global,
+    texts: (&str, &str),
+    most: usize,
+    call: usize,
+) -> Result<(), Fail> {
+    let (script, replies) = texts;
+    let mut shelf = MemShelf::new(alloc);
+    let (text, status) = written(alloc, script, most, call as u64, &mut shelf)?;
+    let front = replies.get(..text.len()).unwrap_or("");
+    expect_at(
+        rt,
+        (text.as_str(), status),
+        (front, Status::OutputFault),
+        call as u64,
+    );
+    assert!(rt; text.len() <= call.saturating_mul(most));
+    check_files(rt, &shelf, lines_within(text.len()).saturating_add(1));
     Ok(())
 }
 
@@ -147,42 +210,63 @@ fn any_write_may_fail(rt: HostRuntime) -> Result<(), Fail> {
     let text = replies(rt.alloc(), 36)?;
     for most in [1, 7] {
         for call in 0..writes_of(most) {
-            let mut source = MemSource::new(rt.alloc(), script.as_bytes())?;
-            let mut sink = ShortSink::failing(rt.alloc(), most, call as u64)?;
-            let mut shelf = MemShelf::new(rt.alloc());
-            let status = run_over(rt.alloc(), &mut source, &mut sink, &mut shelf)?;
-            let written = sink.as_slice();
-            assert_eq!(rt; status, Status::OutputFault, "write {call} of {most}");
-            assert_eq!(rt;
-                Some(written),
-                text.as_bytes().get(..written.len()),
-                "write {call} of {most}"
-            );
-            assert!(rt;
-                written.len() <= call.saturating_mul(most),
-                "write {call} of {most}"
-            );
-            check_files(&rt, &shelf, lines_within(written.len()).saturating_add(1));
+            let texts = (script.as_str(), text.as_str());
+            check_write(&rt, rt.alloc(), texts, most, call)?;
         }
     }
     Ok(())
 }
 
+fn check_short<R: Abort>(rt: &R, alloc: Global, script: &str, most: usize) -> Result<(), Fail>
+    requires { 0 < most }
+{
+    let mut shelf = MemShelf::new(alloc);
+    let calls = writes_of(most) as u64;
+    let (text, status) = written(alloc, script, most, calls, &mut shelf)?;
+    check_lines(
+        rt,
+        alloc,
+        (text.as_str(), status),
+        &shelf,
+        36,
+        Status::Refused,
+    )
+}
+
 #[test]
 fn writes_may_be_short(rt: HostRuntime) -> Result<(), Fail> {
     let script = script(rt.alloc())?;
-    let text = replies(rt.alloc(), 36)?;
     for most in [1, 7, 8_192] {
-        let mut source = MemSource::new(rt.alloc(), script.as_bytes())?;
-        let calls = writes_of(most) as u64;
-        let mut sink = ShortSink::failing(rt.alloc(), most, calls)?;
-        let mut shelf = MemShelf::new(rt.alloc());
-        let status = run_over(rt.alloc(), &mut source, &mut sink, &mut shelf)?;
-        assert_eq!(rt; status, Status::Refused, "writes of {most} bytes");
-        assert_eq!(rt; sink.as_slice(), text.as_bytes(), "writes of {most} bytes");
-        check_files(&rt, &shelf, 36);
+        check_short(&rt, rt.alloc(), script.as_str(), most)?;
     }
     Ok(())
+}
+
+// A run of which the call of the shelf of this number fails, and whether it fails with it.
+fn fails_at<R: Abort>(rt: &R, alloc: Global, script: &str, call: u64) -> Result<bool, Fail> {
+    let mut source = MemSource::new(alloc, script.as_bytes())?;
+    let mut sink = MemSink::new(alloc);
+    let mut shelf = MemShelf::new(alloc);
+    shelf.fail_at(call)?;
+    let status = run_over(alloc, &mut source, &mut sink, &mut shelf)?;
+    let text = std::str::from_utf8(sink.as_slice())?;
+    let lines = lines_within(text.len());
+    let fails = status == Status::ShelfFault;
+    let expected = if fails { status } else { Status::Refused };
+    check_lines(rt, alloc, (text, status), &shelf, lines, expected)?;
+    let is_there = if fails {
+        is_file_line(lines)
+    } else {
+        lines == 36
+    };
+    assert!(rt; is_there, "call {call}");
+    Ok(fails)
+}
+
+// Whether the line of this number, from 0 on, is a save or a load.
+fn is_file_line(number: usize) -> bool {
+    let line = LINES.get(number).map_or("", |(line, _)| *line);
+    line.starts_with("save") || line.starts_with("load")
 }
 
 // The lines before a save or a load were applied and answered, and it left the files.
@@ -191,29 +275,9 @@ fn any_call_of_the_shelf_may_fail(rt: HostRuntime) -> Result<(), Fail> {
     let script = script(rt.alloc())?;
     let mut failing = 0;
     for call in 0..200 {
-        let mut source = MemSource::new(rt.alloc(), script.as_bytes())?;
-        let mut sink = MemSink::new(rt.alloc());
-        let mut shelf = MemShelf::new(rt.alloc());
-        shelf.fail_at(call)?;
-        let status = run_over(rt.alloc(), &mut source, &mut sink, &mut shelf)?;
-        let lines = lines_within(sink.as_slice().len());
-        assert_eq!(rt;
-            sink.as_slice(),
-            replies(rt.alloc(), lines)?.as_bytes(),
-            "call {call}"
-        );
-        check_files(&rt, &shelf, lines);
-        if status == Status::ShelfFault {
-            assert_eq!(rt; call, failing, "calls past the last one fail nothing");
-            let next = LINES.get(lines).map_or("", |(line, _)| *line);
-            assert!(rt;
-                next.starts_with("save") || next.starts_with("load"),
-                "call {call}"
-            );
+        if fails_at(&rt, rt.alloc(), script.as_str(), call)? {
+            assert!(rt; call == failing, "calls past the last one fail nothing");
             failing += 1;
-        } else {
-            assert_eq!(rt; status, Status::Refused, "call {call}");
-            assert_eq!(rt; lines, 36, "call {call}");
         }
     }
     // Each save has at least three calls, and each load that finds a file two.

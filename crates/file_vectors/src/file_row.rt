@@ -1,10 +1,12 @@
 // A script over a shelf with one file or none.
+use crate::expect::expect_file;
 use crate::pairs::{Pair, replies_to, script_of};
-use crate::runs::{answer_over, shelf_with};
+use crate::runs::{check_script, shelf_with};
 use crate::{loads, saves};
 use faissb_core::Status;
 use outside::MemShelf;
 use std::alloc::{AllocError, Global};
+use std::process::Abort;
 use std::test::Fail;
 
 // The file has the name `f`, before the script and after it.
@@ -24,20 +26,27 @@ impl FileRow {
     }
 }
 
+fn check_row<R: Abort>(rt: &R, alloc: Global, row: &FileRow) -> Result<(), Fail> {
+    let script = script_of(alloc, row.pairs)?;
+    let replies = replies_to(alloc, row.pairs, row.pairs.len())?;
+    let mut shelf = row.shelf(alloc)?;
+    check_script(
+        rt,
+        alloc,
+        script.as_str(),
+        &mut shelf,
+        replies.as_str(),
+        row.status,
+    )?;
+    expect_file(rt, &shelf, "f", row.after);
+    Ok(())
+}
+
 #[test]
 fn files_are_saved_and_loaded(rt: HostRuntime) -> Result<(), Fail> {
     for rows in [saves::ROWS.as_slice(), loads::ROWS.as_slice()] {
         for row in rows {
-            let script = script_of(rt.alloc(), row.pairs)?;
-            let mut shelf = row.shelf(rt.alloc())?;
-            let (text, status) = answer_over(rt.alloc(), "script", script.as_bytes(), &mut shelf)?;
-            assert_eq!(rt;
-                text,
-                replies_to(rt.alloc(), row.pairs, row.pairs.len())?,
-                "after {script:?}"
-            );
-            assert_eq!(rt; status, row.status, "after {script:?}");
-            assert_eq!(rt; shelf.get("f"), row.after, "after {script:?}");
+            check_row(&rt, rt.alloc(), row)?;
         }
     }
     Ok(())

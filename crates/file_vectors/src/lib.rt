@@ -12,6 +12,8 @@ mod checks;
 #[cfg(test)]
 mod every_command;
 #[cfg(test)]
+mod expect;
+#[cfg(test)]
 mod faults;
 #[cfg(test)]
 mod file_row;

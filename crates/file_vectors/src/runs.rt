@@ -1,4 +1,5 @@
 // Runs over files in memory.
+use crate::expect::expect;
 use faissb_core::{Status, run};
 use outside::{MemShelf, SureSink, SureSource};
 use std::alloc::{AllocError, Global};
@@ -40,7 +41,6 @@ pub(crate) fn check_script<R: Abort>(
     status: Status,
 ) -> Result<(), Fail> {
     let (text, ended) = answer_over(alloc, "script", script.as_bytes(), shelf)?;
-    assert_eq!(rt; text.as_str(), replies, "after {script:?}");
-    assert_eq!(rt; ended, status, "after {script:?}");
+    expect(rt, (text.as_str(), ended), (replies, status), script);
     Ok(())
 }

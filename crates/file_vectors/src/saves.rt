@@ -1,5 +1,6 @@
 // Scripts that save, and the file that they leave.
 use crate::bytes::{DIRECT, FLAT, HASH, IVF, MAPPED, MULTI};
+use crate::expect::expect_file;
 use crate::file_row::FileRow;
 use crate::runs::{check_script, shelf_with};
 use faissb_core::Status;
@@ -174,8 +175,8 @@ fn names_of_files(rt: HostRuntime) -> Result<(), Fail> {
         replies,
         Status::Refused,
     )?;
-    assert_eq!(rt; shelf.get("f"), Some(FLAT));
-    assert_eq!(rt; shelf.get("g"), Some(b"other".as_slice()));
-    assert_eq!(rt; shelf.get(name.as_str()), Some(FLAT));
+    expect_file(&rt, &shelf, "f", Some(FLAT));
+    expect_file(&rt, &shelf, "g", Some(b"other"));
+    expect_file(&rt, &shelf, name.as_str(), Some(FLAT));
     Ok(())
 }

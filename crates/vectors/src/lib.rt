@@ -9,6 +9,12 @@ mod built;
 #[cfg(test)]
 mod devices;
 #[cfg(test)]
+mod expect;
+#[cfg(test)]
+mod long_row;
+#[cfg(test)]
+mod pieces;
+#[cfg(test)]
 mod row;
 #[cfg(test)]
 mod rows;

@@ -1,4 +1,5 @@
 // Scripts of a few lines, each line with its reply.
+use crate::expect::expect_of;
 use crate::runs::answer;
 use faissb_core::Status;
 use std::alloc::{AllocError, Global};
@@ -38,12 +39,22 @@ impl Row {
     }
 }
 
+fn check_row<R: Abort>(rt: &R, alloc: Global, row: &Row) -> Result<(), Fail> {
+    let script = row.script(alloc)?;
+    let replies = row.replies(alloc)?;
+    let (text, status) = answer(alloc, script.as_bytes())?;
+    expect_of(
+        rt,
+        (text.as_str(), status),
+        (replies.as_str(), row.status),
+        script.as_str(),
+    );
+    Ok(())
+}
+
 pub(crate) fn check_rows<R: Abort>(rt: &R, alloc: Global, rows: &[Row]) -> Result<(), Fail> {
     for row in rows {
-        let script = row.script(alloc)?;
-        let (text, status) = answer(alloc, script.as_bytes())?;
-        assert_eq!(rt; text, row.replies(alloc)?, "after {:?}", script);
-        assert_eq!(rt; status, row.status, "after {:?}", script);
+        check_row(rt, alloc, row)?;
     }
     Ok(())
 }
