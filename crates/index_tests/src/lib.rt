@@ -7,6 +7,8 @@
 #[cfg(test)]
 mod any;
 #[cfg(test)]
+mod building;
+#[cfg(test)]
 mod flat;
 #[cfg(test)]
 mod growing;
