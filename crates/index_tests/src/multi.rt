@@ -100,28 +100,32 @@ fn check_range(
     Ok(())
 }
 
+// Queries with no flip, with one and with eight, of two keys of eight bits.
+fn check_two_keys(rt: &impl Abort, alloc: Global, index: &mut Multi<Plain>) -> Result<(), Fail> {
+    assert!(rt; index.dim().bytes() == 2 && index.b() == 8);
+    let q = [0x00, 0x00];
+    let all = [hit(1, 0), hit(2, 1), hit(16, 2)];
+    check_search(rt, alloc, index, &q, 3, &all[..1], (1, 2))?;
+    check_range(rt, alloc, index, &q, 1, &all[..0], (1, 2))?;
+    check_range(rt, alloc, index, &q, 17, &all[..1], (1, 2))?;
+    assert!(rt; index.bound() == 2);
+    index.set_nflip(1);
+    check_search(rt, alloc, index, &q, 1, &all[..1], (2, 5))?;
+    check_range(rt, alloc, index, &q, 2, &all[..1], (2, 5))?;
+    check_range(rt, alloc, index, &q, 3, &all[..2], (2, 5))?;
+    assert!(rt; index.bound() == 4);
+    index.set_nflip(8);
+    check_range(rt, alloc, index, &q, 17, &all, (3, 5))
+}
+
 // Of three codes the first has a key of the query, the second is off by one bit in each of its two
 // keys, and the last by all.
 #[test]
 fn answers_by_two_keys(rt: HostRuntime) -> Result<(), Fail> {
-    let alloc = rt.alloc();
-    let q = [0x00, 0x00];
-    let all = [hit(1, 0), hit(2, 1), hit(16, 2)];
     for is_over in [false, true] {
         let codes = [&[0x01, 0x00][..], &[0x01, 0x01], &[0xff, 0xff]];
-        let mut index = index_of(&rt, alloc, (2, 8), &codes, is_over)?;
-        assert!(rt; index.dim().bytes() == 2 && index.b() == 8);
-        check_search(&rt, alloc, &index, &q, 3, &all[..1], (1, 2))?;
-        check_range(&rt, alloc, &index, &q, 1, &all[..0], (1, 2))?;
-        check_range(&rt, alloc, &index, &q, 17, &all[..1], (1, 2))?;
-        assert_eq!(rt; index.bound(), 2);
-        index.set_nflip(1);
-        check_search(&rt, alloc, &index, &q, 1, &all[..1], (2, 5))?;
-        check_range(&rt, alloc, &index, &q, 2, &all[..1], (2, 5))?;
-        check_range(&rt, alloc, &index, &q, 3, &all[..2], (2, 5))?;
-        assert_eq!(rt; index.bound(), 4);
-        index.set_nflip(8);
-        check_range(&rt, alloc, &index, &q, 17, &all, (3, 5))?;
+        let mut index = index_of(&rt, rt.alloc(), (2, 8), &codes, is_over)?;
+        check_two_keys(&rt, rt.alloc(), &mut index)?;
     }
     Ok(())
 }
