@@ -1,7 +1,7 @@
 use crate::samples::{
     Change, DIRECT, DIRECT_FAULTS, FLAT, FLAT_FAULTS, HASH, HASH_FAULTS, IVF, IVF_FAULTS,
     MANY_FLAT, MANY_HASH, MANY_IVF, MANY_MULTI, MANY_POSITIONS, MAPPED, MAPPED_FAULTS, MULTI,
-    MULTI_FAULTS, SAMPLES,
+    MULTI_FAULTS, SAMPLES, WIDE, WIDE_FAULTS,
 };
 use any_index::AnyIndex;
 use bcodes::BinaryIndex;
@@ -139,6 +139,7 @@ fn whole_files_are_read_and_written_again(rt: HostRuntime) -> Result<(), Fail> {
     for sample in SAMPLES {
         check_whole(&rt, rt.alloc(), sample.bytes, sample.count)?;
     }
+    check_whole(&rt, rt.alloc(), WIDE, 3)?;
     for bytes in [HASH, MULTI] {
         let file = mapped(rt.alloc(), bytes, &[-1, 5, i64::MIN])?;
         check_whole(&rt, rt.alloc(), &file, 3)?;
@@ -170,6 +171,7 @@ fn the_first_fault_is_named(rt: HostRuntime) -> Result<(), Fail> {
     check_changes(&rt, rt.alloc(), FLAT, FLAT_FAULTS)?;
     check_changes(&rt, rt.alloc(), HASH, HASH_FAULTS)?;
     check_changes(&rt, rt.alloc(), MULTI, MULTI_FAULTS)?;
+    check_changes(&rt, rt.alloc(), WIDE, WIDE_FAULTS)?;
     check_changes(&rt, rt.alloc(), IVF, IVF_FAULTS)?;
     check_changes(&rt, rt.alloc(), DIRECT, DIRECT_FAULTS)?;
     check_changes(&rt, rt.alloc(), MAPPED, MAPPED_FAULTS)?;

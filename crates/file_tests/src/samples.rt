@@ -31,6 +31,15 @@ pub const MULTI: &[u8] = b"IBHm\x10\0\0\0\x02\0\0\0\x03\0\0\0\0\0\0\0\x01\x01\0\
     \x02\0\0\0\x01\0\0\0\0\0\0\0\x02\0\0\0\0\0\0\0\x01\x93\
     \x02\0\0\0\x01\0\0\0\0\0\0\0\x02\0\0\0\0\0\0\0\0\x93";
 
+/// A MultiHash by one key of 64 bits, with the codes of the numbers 1, 2^40 and 3.
+pub const WIDE: &[u8] = b"IBHm\x40\0\0\0\x08\0\0\0\x03\0\0\0\0\0\0\0\x01\x01\0\0\0\
+    IBxF\x40\0\0\0\x08\0\0\0\x03\0\0\0\0\0\0\0\x01\x01\0\0\0\
+    \x18\0\0\0\0\0\0\0\
+    \x01\0\0\0\0\0\0\0\0\0\0\0\0\x01\0\0\x03\0\0\0\0\0\0\0\
+    \x40\0\0\0\x01\0\0\0\0\0\0\0\
+    \x02\0\0\0\x03\0\0\0\0\0\0\0\x1a\0\0\0\0\0\0\0\
+    \x01\0\0\0\0\0\0\0\x01\0\0\0\0\x10\0\0\x50\x03\0\0\0\0\0\0\0\x09";
+
 /// An IVF of two lists with the centroids `00` and `ff`, and with the code `0f` on the first.
 pub const IVF: &[u8] = b"IBwF\x08\0\0\0\x01\0\0\0\x01\0\0\0\0\0\0\0\x01\x01\0\0\0\
     \x02\0\0\0\0\0\0\0\x01\0\0\0\0\0\0\0\
@@ -207,6 +216,15 @@ pub const MULTI_FAULTS: &[Change<'static>] = &[
     (76, b"\x03", 76, Reason::Bits),
     (96, b"\x01\x53", 96, Reason::Positions),
     (96, b"\x02\x93", 96, Reason::WrongBucket),
+];
+
+/// Faults of the MultiHash by a key of 64 bits.
+pub const WIDE_FAULTS: &[Change<'static>] = &[
+    (122, b"\x05", 114, Reason::WrongBucket),
+    (130, b"\x10", 114, Reason::Positions),
+    (130, b"\x90", 114, Reason::WrongBucket),
+    (139, b"\x0d", 114, Reason::Positions),
+    (139, b"\x19", 114, Reason::Padding),
 ];
 
 /// Faults of the IVF.

@@ -1,3 +1,4 @@
+mod key_column;
 mod keyed;
 mod map;
 mod map_run;

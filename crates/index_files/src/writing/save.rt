@@ -18,8 +18,8 @@ use outside::{Shelf, Trouble};
 use std::alloc::Global;
 
 /// Writes an index to a file of this name, in place of one that has the name, and gives the number
-/// of bytes. The file is laid out as by Faiss's `write_index_binary` (`impl/index_write.cpp`). The
-/// rows are written where they stand, without a copy.
+/// of bytes. The file is laid out as by Faiss's `write_index_binary` (`impl/index_write.cpp`). Long
+/// runs of codes are written from where they stand, short ones by way of a buffer.
 ///
 /// # Errors
 ///

@@ -5,6 +5,7 @@ ghost use Rattle.code_pool.specs.Lists.{rows_in};
 ghost use Rattle.key_buckets.specs.Keys.{key_in};
 ghost use Rattle.multi_hash.specs.Inside.{row_key};
 
+use crate::reading::multi::key_column::KeyColumn;
 use bcodes::{BinaryIndex, Meter, Plain, Want, chunk, code_at};
 use code_pool::Run;
 use flat_index::Flat;
@@ -18,7 +19,7 @@ pub struct Keyed<'s> {
     storage: &'s Flat<Plain>,
     number: u32,
     b: u32,
-    keys: Vec<u64>,
+    keys: KeyColumn,
 }
 
 impl<'s> Model for Keyed<'s> {
@@ -30,7 +31,7 @@ impl<'s> Model for Keyed<'s> {
 
     ghost view = { λ k. record { codes = k.storage.now.codes; number = k.number; b = k.b } };
 
-    ghost invariant = { λ k. k.keys.items ≡ map (key_in k.number k.b) k.storage.now.codes };
+    ghost invariant = { λ k. k.keys ≡ map (key_in k.number k.b) k.storage.now.codes };
 }
 
 impl Keyed<'_> {
@@ -71,21 +72,21 @@ impl Keyed<'_> {
         ensures { result ≡ key (slice_index_or self.now.codes position [])
             (self.now.number * self.now.b) self.now.b }
     {
-        self.keys[position]
+        self.keys.get(position)
     }
 }
 
-fn keys_under(alloc: Global, storage: &Flat<Plain>, number: u32, b: u32) -> Result<Vec<u64>, Want>
+fn keys_under(alloc: Global, storage: &Flat<Plain>, number: u32, b: u32) -> Result<KeyColumn, Want>
     requires b_least { 1 ≤ b }
     requires b_most { b ≤ 64 }
     requires within { (number + 1) * b ≤ storage.now.dim }
-    ensures { IfOk result (λ keys. keys.items ≡ map (key_in number b) storage.now.codes) }
+    ensures { IfOk result (λ keys. keys ≡ map (key_in number b) storage.now.codes) }
 {
     let size = storage.dim().bytes();
     let count = storage.count();
     // Nobody asks what reading a file reads of its own codes.
     let mut meter = Meter::new(Plain);
-    let mut keys = Vec::with_capacity(alloc, count as usize)?;
+    let mut keys = KeyColumn::with_capacity(alloc, count as usize)?;
     let mut from = 0;
     while from < count {
         let run = storage.lend(from, &mut meter);
@@ -97,7 +98,7 @@ fn keys_under(alloc: Global, storage: &Flat<Plain>, number: u32, b: u32) -> Resu
 
 // Appends the keys of the codes of a run.
 fn push_keys(
-    keys: &mut Vec<u64>,
+    keys: &mut KeyColumn,
     run: Run<'_>,
     size: usize,
     number: u32,
@@ -108,7 +109,7 @@ fn push_keys(
     requires size_least { 1 ≤ size }
     requires within { (number + 1) * b ≤ 8 * size }
     requires whole { length run.codes.now ≡ length run.labels.now * size }
-    ensures { OnOk result (keys.new.items ≡ keys.old.items
+    ensures { OnOk result (keys.new ≡ keys.old
         ++ map (row_key number b) (rows_in size run.entry.labels.now run.entry.codes.now)) }
 {
     for at in 0..run.labels.len() {

@@ -12,7 +12,7 @@ pub loop-at-preserved : goal.loop-at-preserved
 loop-at-preserved c =
     let f : Row → ℕ = row_key c.args.number c.args.b in
     let at : ℕ = c.loop-at.at in
-    let old : List ℕ = c.args.keys.now.items in
+    let old : List ℕ = c.args.keys.now in
     let rows : List Row = rows_in c.args.size c.args.run.labels.now c.args.run.codes.now in
     let low : at < length c.args.run.labels.now = omega arith in
     let here : at < length rows = omega (
@@ -24,7 +24,7 @@ loop-at-preserved c =
     ∙ ap (key_in c.args.number c.args.b) (c.code_at.ensures.value
     ∙ ap (λ (row : Row). row.code)
     (sym (get-rows_in c.args.size c.args.run.labels.now c.args.run.codes.now at no_row low))) in
-    c.in_ok-push.ensures.items
+    c.in_ok-push.ensures
     ∙ ap (λ (ks : List ℕ). ks ++ c.chunk.result ∷ []) c.loop-at.invariant
     ∙ ap (λ (k : ℕ). (old ++ map f (take at rows)) ++ k ∷ []) key
     ∙ append_assoc old (map f (take at rows)) (f (get_or rows at no_row) ∷ [])
@@ -35,5 +35,5 @@ returns c =
     let f : Row → ℕ = row_key c.args.number c.args.b in
     let rows : List Row = rows_in c.args.size c.args.run.labels.now c.args.run.codes.now in
     c.loop-at.invariant
-    ∙ ap (λ (rs : List Row). c.args.keys.now.items ++ map f rs) (take_all c.loop-at.at rows
+    ∙ ap (λ (rs : List Row). c.args.keys.now ++ map f rs) (take_all c.loop-at.at rows
     (omega (arith, length-rows_in c.args.size c.args.run.labels.now c.args.run.codes.now)))
