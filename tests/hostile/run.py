@@ -230,13 +230,12 @@ def hostile_files(folder):
                 data = whole[:at] + count.to_bytes(8, "little") + whole[at + 8:]
                 with open(os.path.join(folder, "h"), "wb") as file:
                     file.write(data)
-            # One run for each place, with the last of the counts.
-            before = lambda: resource.setrlimit(resource.RLIMIT_AS, (1 << 29, 1 << 29))
-            status, output = faissb(b"load h\n", cwd=folder, before=before)
-            worst = max(worst, status)
-            if not (status in (0, 1) and output[:8] in (b"refused ", b"loaded 5", b"loaded 0")):
-                report("a huge count in a file of " + factory, status, set(),
-                       "at %d: %r" % (at, output[:60]))
+                before = lambda: resource.setrlimit(resource.RLIMIT_AS, (1 << 29, 1 << 29))
+                status, output = faissb(b"load h\n", cwd=folder, before=before)
+                worst = max(worst, status)
+                if not (status in (0, 1) and output[:8] in (b"refused ", b"loaded 5", b"loaded 0")):
+                    report("a huge count in a file of " + factory, status, set(),
+                           "%d at %d: %r" % (count, at, output[:60]))
         demand("huge counts at each byte of a file of " + factory, worst <= 1)
     report("a file of random bytes", loads(folder, "h", numbers.randbytes(100_000))[0], {1})
     report("an empty file", loads(folder, "h", b"")[0], {1})
