@@ -106,6 +106,15 @@ further l n = (length l.rows + n + 3) / 4 - blocks_of l
 abbrev pub with_row : PoolList → Row → PoolList
 with_row l row = record { rows = l.rows ++ row ∷ []; spare = l.spare - 1 }
 
+-- a list with more rows, in its spare room
+abbrev pub with_rows : PoolList → List Row → PoolList
+with_rows l rows = record { rows = l.rows ++ rows; spare = l.spare - length rows }
+
+-- rows with others in place of those from `at` on
+unfoldable pub with_run : List Row → ℕ → List Row → List Row
+with_run rows at [] = rows
+with_run rows at (row ∷ new) = with_run (slice_set rows at row) (at + 1) new
+
 -- room for n more rows of a list, with the rows of every list as they were
 pub record IsReserved (old new : PoolLists) (list n : ℕ) : Type 0 where
   pub code_size : new.code_size ≡ old.code_size

@@ -158,6 +158,34 @@ impl Blocks {
         block as usize * BLOCK_ROWS + len % BLOCK_ROWS
     }
 
+    /// Counts as many of n more rows of a list as stand side by side with its next row, in the
+    /// room that it has, and gives where they stand.
+    pub fn add_rows(&mut self, list: u32, n: usize) -> Stretch
+        requires exists { list + 1 < length self.old.chains }
+        requires some { 1 ≤ n }
+        requires room { (list_of self.old list).len + n
+            ≤ 4 * length (list_of self.old list).blocks }
+        ensures some { 1 ≤ result.rows }
+        ensures most { result.rows ≤ n }
+        ensures beside { IsStretch (list_of self.old list).blocks (list_of self.old list).len
+            result.from result.rows }
+        ensures chains { self.new
+            ≡ with_len self.old list ((list_of self.old list).len + result.rows) }
+        ensures apart { IsApart self.old }
+    {
+        let len = self.len(list);
+        let block = self.next[list as usize];
+        let most = n / BLOCK_ROWS + 2;
+        let beside = self.side_by_side(list, len / BLOCK_ROWS, block, most);
+        let before = len % BLOCK_ROWS;
+        let rows = (beside.count * BLOCK_ROWS - before).min(n);
+        self.set_len(list, len + rows);
+        Stretch {
+            from: beside.first * BLOCK_ROWS + before,
+            rows,
+        }
+    }
+
     // The block of row `at + 1` of a list, where it has one, by that of row `at`.
     fn block_behind(&self, list: u32, at: usize, block: u32) -> u32
         requires exists { list + 1 < length self.now.chains }

@@ -1,10 +1,11 @@
 ghost use Rattle.std.specs.Prelude.{◌≡◌, ℕ, ◌+◌, ◌*◌, ◌/◌, ◌^◌, ◌<◌, ◌≤◌, [], ◌∷◌, ◌++◌, length};
-ghost use Rattle.std.specs.Prelude.{map, slice_set, IsOk, IfOk, OnOk, OnErr, sum_by};
+ghost use Rattle.std.specs.Prelude.{map, take, drop, slice_set, IsOk, IfOk, OnOk, OnErr, sum_by};
 ghost use Rattle.std.specs.List.{All};
 ghost use Rattle.bcodes.specs.Ranges.{raised};
 ghost use Rattle.code_pool.specs.Lists.{IsPart, IsPoolRow, IsReserved, IsRun, IsTaken, blocks_of};
-ghost use Rattle.code_pool.specs.Lists.{further, label_of, list_at, no_list, row_at, with_list};
-ghost use Rattle.code_pool.specs.Lists.{with_kept, with_row, with_spare, cut_to, given, taken};
+ghost use Rattle.code_pool.specs.Lists.{further, label_of, list_at, no_list, row_at, rows_in};
+ghost use Rattle.code_pool.specs.Lists.{with_kept, with_list, with_row, with_rows, with_spare};
+ghost use Rattle.code_pool.specs.Lists.{cut_to, given, taken};
 ghost use Rattle.code_pool.specs.Positions.{with_positions};
 
 use crate::blocks::{BLOCK_ROWS, Blocks, MOST_BLOCKS};
@@ -223,6 +224,40 @@ impl<L: Ledger> Pool<L> {
     {
         let at = self.blocks.add_row(list);
         self.rows.write(at, label, code);
+    }
+
+    /// Appends the rows of a run to a list that has room for them, as `push` does one by one. It
+    /// takes no memory.
+    pub fn push_run(&mut self, list: u32, run: Run<'_>)
+        requires exists { list < length self.old.lists }
+        requires room { length run.labels.now ≤ (list_at self.old list).spare }
+        requires whole { length run.codes.now ≡ length run.labels.now * self.old.code_size }
+        ensures { self.new ≡ with_list self.old list (with_rows (list_at self.old list)
+            (rows_in self.old.code_size run.entry.labels.now run.entry.codes.now)) }
+    {
+        let mut done = 0;
+        while done < run.labels.len() {
+            done += self.push_part(list, run, done);
+        }
+    }
+
+    // Appends rows of a run to a list, from place `from` of the run on: as many as stand side by
+    // side with the next row of the list. It gives their number.
+    fn push_part(&mut self, list: u32, run: Run<'_>, from: usize) -> usize
+        requires exists { list < length self.old.lists }
+        requires from { from < length run.labels.now }
+        requires room { length run.labels.now ≤ from + (list_at self.old list).spare }
+        requires whole { length run.codes.now ≡ length run.labels.now * self.old.code_size }
+        ensures some { 1 ≤ result }
+        ensures within { from + result ≤ length run.entry.labels.now }
+        ensures rows { self.new ≡ with_list self.old list (with_rows (list_at self.old list)
+            (take result (drop from
+            (rows_in self.old.code_size run.entry.labels.now run.entry.codes.now)))) }
+    {
+        let stretch = self.blocks.add_rows(list, run.labels.len() - from);
+        self.rows
+            .write_run(stretch.from, run.part(from, stretch.rows));
+        stretch.rows
     }
 
     /// The number of rows of a list.

@@ -1,8 +1,9 @@
 ghost use Rattle.std.specs.Prelude.{◌≡◌, ℕ, ◌+◌, ◌-◌, ◌*◌, ◌<◌, ◌≤◌, ◌^◌, [], ◌∷◌, ◌++◌, length};
 ghost use Rattle.std.specs.Prelude.{map, take, drop, slice_index, slice_set, vec_len, vec_capacity};
-ghost use Rattle.std.specs.Prelude.{replicate, IsOk, OnOk, OnErr};
+ghost use Rattle.std.specs.Prelude.{replicate, FitsSigned, IsOk, OnOk, OnErr};
+ghost use Rattle.std.specs.Int.{w64};
 ghost use Rattle.std.specs.List.{All};
-ghost use Rattle.code_pool.specs.Lists.{IsPoolRow, label_of, row_in, row_of, rows_in};
+ghost use Rattle.code_pool.specs.Lists.{IsPoolRow, label_of, row_in, row_of, rows_in, with_run};
 
 use crate::run::Run;
 use std::alloc::{AllocError, Global};
@@ -82,6 +83,19 @@ impl Rows {
     {
         write_code(&mut self.codes, self.labels.len(), self.code_size, at, code);
         self.labels[at] = label;
+    }
+
+    /// Writes the rows of a run, from a place on.
+    pub fn write_run(&mut self, at: usize, run: Run<'_>)
+        requires within { at + length run.labels.now ≤ length self.old.rows }
+        requires whole { length run.codes.now ≡ length run.labels.now * self.old.code_size }
+        ensures { self.new ≡ record self.old {
+          rows = with_run self.old.rows at
+              (rows_in self.old.code_size run.entry.labels.now run.entry.codes.now);
+        } }
+    {
+        write_bytes(&mut self.codes, at * self.code_size, run.codes);
+        write_labels(&mut self.labels, at, run.labels);
     }
 
     /// Copies the row at one place to another.
@@ -164,6 +178,27 @@ fn write_code(codes: &mut Vec<u8>, rows: usize, code_size: usize, at: usize, cod
 {
     let start = at * code_size;
     codes[start..start + code_size].copy_from_slice(code);
+}
+
+// Writes bytes from a place on.
+fn write_bytes(bytes: &mut Vec<u8>, at: usize, new: &[u8])
+    requires { at + length new.now ≤ length bytes.old.items }
+    ensures { bytes.new.items ≡ take at bytes.old.items
+        ++ (new.now ++ drop (at + length new.now) bytes.old.items) }
+{
+    bytes[at..at + new.len()].copy_from_slice(new);
+}
+
+// Writes labels from a place on. One by one, so that each is known to fit.
+fn write_labels(labels: &mut Vec<i64>, at: usize, new: &[i64])
+    requires { at + length new.now ≤ length labels.old.items }
+    ensures items { labels.new.items ≡ take at labels.old.items
+        ++ (new.now ++ drop (at + length new.now) labels.old.items) }
+    ensures fit { All (FitsSigned w64) new.now }
+{
+    for i in 0..new.len() {
+        labels[at + i] = new[i];
+    }
 }
 
 // Copies the code of the row at one place to another.

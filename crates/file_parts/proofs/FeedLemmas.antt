@@ -1,10 +1,14 @@
 -- What the bytes of a field give, and the checks of it.
-use Rattle.std.proofs.Common.{ℤ, ◌≡◌, List, ℕ, ltb, length, take, Ok}
-use Rattle.std.proofs.Common.{inl, inr, refl, ap}
-use Rattle.std.proofs.lemmas.Bool.{cases_Bool}
+use Rattle.std.proofs.Common.{ℤ, ◌≡◌, List, ◌++◌, ℕ, ltb, false, length, take, drop, Ok, Option, Some, None}
+use Rattle.std.proofs.Common.{inl, inr, refl, sym, ap, ◌∙◌, arith, append_assoc}
+use Rattle.std.proofs.Math.Seq.{drop-append_seam}
+use Rattle.std.proofs.lemmas.Bool.{cases_Bool, le-ltb}
+use Rattle.std.proofs.lemmas.List.{take_at, length-append}
 use Rattle.std.specs.Int.{w32, w64, cast_signed}
 use Rattle.byteorder.specs.Endian.{little_number}
-use Rattle.file_parts.specs.Format.{field, done, Check, first_refusal, on_pass, Place, run, after}
+use Rattle.outside.specs.Contents.{Contents}
+use Rattle.file_parts.specs.Feeding.{IsTold, place_of}
+use Rattle.file_parts.specs.Format.{field, done, Check, first_refusal, forward, on_pass, Place, run, after}
 use Rattle.file_parts.specs.Fields.{no_check, bytes_field, number_of, signed_of, int_of, number, any_number, any_signed}
 use Rattle.file_parts.specs.Fields.{any_int}
 use Rattle.file_parts.proofs.Reading.{okay, ok-is}
@@ -23,6 +27,21 @@ field_gives w checks f p q bytes e =
           let r : after w p ≡ q = ap (λ (x : List ℕ × Place). x.1) (ok-is _ _ k) in
           rw (h, b, r) refl
     ]
+
+-- bytes that were read ahead, all of them
+pub ahead_gives : (w at stands : ℕ) (bytes rest ahead : List ℕ) (contents : Option Contents) → IsTold contents
+    → length bytes ≡ w → ahead ≡ bytes ++ rest → stands ≡ forward at w
+    → run (bytes_field w no_check) (place_of at ahead contents) ≡ Ok (bytes, place_of stands rest contents)
+ahead_gives w at stands bytes rest ahead None told len held is = absurd cc
+ahead_gives w at stands bytes rest ahead (Some c) told len held is =
+    let all : List ℕ = rest ++ c.reading in
+    let whole : ahead ++ c.reading ≡ bytes ++ all =
+    ap (λ (t : List ℕ). t ++ c.reading) held ∙ append_assoc bytes rest c.reading in
+    let long : ltb (length (bytes ++ all)) w ≡ false = le-ltb _ _ (omega (arith, length-append bytes all, len)) in
+    let front : take w (bytes ++ all) ≡ bytes = take_at bytes all w len in
+    let behind : drop w (bytes ++ all) ≡ all =
+    ap (λ (n : ℕ). drop n (bytes ++ all)) (sym len) ∙ drop-append_seam bytes all in
+    rw (whole, long, front, behind, is) refl
 
 -- bytes that are read as a number
 pub number_gives : (w : ℕ) (p q : Place) (bytes : List ℕ) (n : ℕ)

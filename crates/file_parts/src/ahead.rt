@@ -1,5 +1,5 @@
-ghost use Rattle.std.specs.Prelude.{◌≡◌, ◌<◌, Ok, [], IsTrue, IsErrOf, length, min, take, drop};
-ghost use Rattle.std.specs.Prelude.{true};
+ghost use Rattle.std.specs.Prelude.{◌≡◌, ◌<◌, ◌++◌, None, Ok, [], IfSome, IsTrue, IsErrOf};
+ghost use Rattle.std.specs.Prelude.{length, min, take, drop, true};
 ghost use Rattle.outside.specs.Calls.{WhereTold};
 ghost use Rattle.outside.specs.Causes.{CountsFailure};
 ghost use Rattle.file_parts.specs.Ahead.{Refills};
@@ -9,6 +9,9 @@ use std::marker::Model;
 
 /// The most bytes that are read at once.
 pub(crate) const PIECE: usize = 65_536;
+
+/// The bytes of a long number.
+pub(crate) const NUMBER: usize = 8;
 
 /// Bytes that were read from a shelf and not handed out yet. Contracts see these bytes.
 #[derive(Drop)]
@@ -48,6 +51,20 @@ impl Ahead {
         let count = copy_front(&self.bytes[self.start..self.end], into);
         self.start += count;
         count
+    }
+
+    /// Hands out the next eight bytes, if there are so many.
+    pub(crate) fn take_number(&mut self) -> Option<[u8; NUMBER]>
+        ensures some { IfSome result (λ bytes. self.old ≡ bytes ++ self.new) }
+        ensures none { result ≡ None → self.new ≡ self.old }
+    {
+        if self.end - self.start < NUMBER {
+            return None;
+        }
+        let mut bytes = [0; NUMBER];
+        bytes.copy_from_slice(&self.bytes[self.start..self.start + NUMBER]);
+        self.start += NUMBER;
+        Some(bytes)
     }
 
     /// Says whether there are bytes. If there are none, it first reads as many as one read gives, up

@@ -5,7 +5,7 @@ ghost use Rattle.file_parts.specs.Fields.{no_check, repeated};
 ghost use Rattle.file_parts.specs.Feeding.{GivesEnd, GivesField, IsTold, StaysOver, name_of};
 ghost use Rattle.file_parts.specs.Feeding.{offset_of, place, place_of, shelf_of};
 
-use crate::ahead::Ahead;
+use crate::ahead::{Ahead, NUMBER};
 use crate::fill::fill;
 use crate::run::read_run;
 use crate::{Letters, PartError, Reason};
@@ -178,8 +178,7 @@ impl<'s, H: Shelf> Feed<'s, H> {
         ensures shelf { StaysOver H.contents H.is_reading H.faults self.old self.new
             (IsErrOf result PartError.Failed) }
     {
-        let mut bytes = [0u8; 8];
-        self.bytes(&mut bytes)?;
+        let bytes = self.long()?;
         Ok(LittleEndian::read_u64(&bytes))
     }
 
@@ -194,9 +193,26 @@ impl<'s, H: Shelf> Feed<'s, H> {
         ensures shelf { StaysOver H.contents H.is_reading H.faults self.old self.new
             (IsErrOf result PartError.Failed) }
     {
-        let mut bytes = [0u8; 8];
-        self.bytes(&mut bytes)?;
+        let bytes = self.long()?;
         Ok(LittleEndian::read_i64(&bytes))
+    }
+
+    // The bytes of a long number. Files have so many of these that a way of their own pays: it is
+    // short enough to be inlined, and copies a known number of bytes.
+    fn long(&mut self) -> Result<[u8; NUMBER], PartError>
+        requires { IsTrue (H.is_reading (shelf_of self.old)) }
+        ensures gives { GivesField H.contents (λ bytes. bytes) (bytes_field 8 no_check)
+            self.old self.new result }
+        ensures shelf { StaysOver H.contents H.is_reading H.faults self.old self.new
+            (IsErrOf result PartError.Failed) }
+    {
+        if let Some(bytes) = self.ahead.take_number() {
+            self.at = self.at.saturating_add(NUMBER as u64);
+            return Ok(bytes);
+        }
+        let mut bytes = [0; NUMBER];
+        self.bytes(&mut bytes)?;
+        Ok(bytes)
     }
 
     /// Takes four letters.

@@ -67,6 +67,17 @@ pub few_added : (v seen : CodeList) (ls : List ℤ) (cs : List (List ℕ)) → v
 few_added v seen ls cs is same h = omega
     (arith, light v.dim (length (v.codes ++ cs)) (load_added v seen ls cs is same h), length-append v.codes cs)
 
+-- the load after an append, seen from inside
+pub load_inside : (v seen : CodeList) (n : ℕ) (cs : List (List ℕ)) → v ≡ seen → length cs ≡ n
+    → weight seen.dim 0 (length seen.codes + n) 0 ≤ load_limit
+    → weight v.dim 0 (length (v.codes ++ cs)) 0 ≤ load_limit
+load_inside v seen n cs is long h = rw (length-append v.codes cs, long, is) h
+
+-- how many rows that load allows
+pub few_inside : (v seen : CodeList) (n : ℕ) → v ≡ seen → weight seen.dim 0 (length seen.codes + n) 0 ≤ load_limit
+    → length v.codes + n ≤ 67108864
+few_inside v seen n is h = light v.dim (length v.codes + n) (rw is h)
+
 -- what a reserve and an append leave
 pub record IsAdded (old new : PoolLists) (count : ℕ) (cs : List (List ℕ)) : Type 0 where
   pub rows : (list_at new 0).rows ≡ (list_at old 0).rows ++ numbered count cs

@@ -1,6 +1,7 @@
-ghost use Rattle.std.specs.Prelude.{◌≡◌, ◌+◌, ◌/◌, ◌^◌, ◌<◌, ◌≤◌, [], ◌++◌, length, map};
+ghost use Rattle.std.specs.Prelude.{◌≡◌, ◌+◌, ◌*◌, ◌/◌, ◌^◌, ◌<◌, ◌≤◌, [], ◌++◌, length, map};
 ghost use Rattle.std.specs.Prelude.{slice_index_or, Some, IfOk, OnOk, OnErr};
 ghost use Rattle.std.specs.List.{items_where_true};
+ghost use Rattle.bcodes.specs.Chunks.{chunks_of};
 ghost use Rattle.bcodes.specs.Ranges.{load_limit, raised};
 ghost use Rattle.bcodes.specs.Value.{Flat as FlatForm, Bare, labels_from, numbered, weight};
 ghost use Rattle.bcodes.specs.Answers.{best, looked, within};
@@ -86,6 +87,22 @@ impl<L: Ledger> Flat<L> {
         let count = self.pool.len(0);
         self.pool.reserve(0, codes.len())?;
         append_all(&mut self.pool, count, codes);
+        Ok(())
+    }
+
+    /// Appends the `n` codes that lie side by side in `bytes`, under the positions that follow.
+    /// `Want` says that memory ran out, and leaves the index as it was.
+    pub fn append_bytes(&mut self, n: usize, bytes: &[u8]) -> Result<(), Want>
+        requires whole { length bytes.now ≡ n * (self.old.dim / 8) }
+        requires load { weight self.old.dim 0 (length self.old.codes + n) 0 ≤ load_limit }
+        ensures ok { OnOk result (self.new ≡ record self.old {
+          codes = self.old.codes ++ chunks_of (self.old.dim / 8) n bytes.now;
+        }) }
+        ensures err { OnErr result (self.new ≡ self.old) }
+    {
+        let count = self.pool.len(0);
+        self.pool.reserve(0, n)?;
+        append_all_bytes(&mut self.pool, count, self.dim.bytes(), n, bytes);
         Ok(())
     }
 
@@ -256,5 +273,57 @@ fn append_all<L: Ledger>(pool: &mut Pool<L>, count: usize, codes: &Codes)
 {
     for i in 0..codes.len() {
         pool.push(0, (count + i) as i64, codes.get(i));
+    }
+}
+
+// The most codes that are appended at a time. Their labels stand on the stack.
+const PART_ROWS: usize = 256;
+
+// Appends n codes of `size` bytes that lie side by side, under their positions, to list 0, which
+// has `count` rows and room for the codes.
+fn append_all_bytes<L: Ledger>(
+    pool: &mut Pool<L>,
+    count: usize,
+    size: usize,
+    n: usize,
+    bytes: &[u8],
+)
+    requires one { 0 < length pool.old.lists }
+    requires count { count ≡ length (list_at pool.old 0).rows }
+    requires few { count + n < 2 ^ 31 }
+    requires size { pool.old.code_size ≡ size }
+    requires some { 1 ≤ size }
+    requires whole { length bytes.now ≡ n * size }
+    requires room { n ≤ (list_at pool.old 0).spare }
+    ensures rows { (list_at pool.new 0).rows
+        ≡ (list_at pool.old 0).rows ++ numbered count (chunks_of size n bytes.now) }
+    ensures lists { length pool.new.lists ≡ length pool.old.lists }
+    ensures size { pool.new.code_size ≡ pool.old.code_size }
+{
+    let mut labels = [0; PART_ROWS];
+    let mut done = 0;
+    while done < n {
+        let more = (n - done).min(PART_ROWS);
+        let part = &mut labels[..more];
+        count_up(part, count + done);
+        let codes = &bytes[done * size..(done + more) * size];
+        pool.push_run(
+            0,
+            Run {
+                labels: part,
+                codes,
+            },
+        );
+        done += more;
+    }
+}
+
+// Fills a slice with the numbers from `first` on.
+fn count_up(labels: &mut [i64], first: usize)
+    requires { first + length labels.old < 2 ^ 63 }
+    ensures { labels.new ≡ labels_from first (length labels.old) }
+{
+    for (i, label) in labels.iter_mut().enumerate() {
+        *label = (first + i) as i64;
     }
 }

@@ -16,6 +16,7 @@ use Rattle.std.proofs.lemmas.Grind.{flat_map-append}
 use Rattle.std.proofs.lemmas.List.Elements.{All-nil, All-cons, All-head, All-tail}
 use Rattle.std.proofs.lemmas.List.Sums.{sum_by-append, sum_by-cons, sum_by_push}
 use Rattle.bcodes.specs.Answers.{paired}
+use Rattle.bcodes.specs.Chunks.{chunks_of}
 use Rattle.bcodes.specs.Ranges.{load_limit}
 use Rattle.bcodes.specs.Value.{CodeList, HasBytes, IsNumbering, IsPlace, Ivf, IvfValue, ListRow, Row, row_of, weight}
 use Rattle.file_parts.specs.declared.file_fault.FileFault.{FileFault}
@@ -444,17 +445,14 @@ list-ids-stop rules size p cs a b e codes_read h =
     (sym (step (repeated p.size (bytes_field size no_check)) (λ cs. ids_format >>= λ ids. done (rows_on p.list cs ids))
     a b cs codes_read))
 
--- the rows of one piece more
-pub piece-rows : (list from n : ℕ) (ids slice : List ℤ) (cs ds : List (List ℕ)) → from ≡ length cs
-    → from ≤ length ids → slice ≡ take n (drop from ids)
-    → map (put_row list) (paired (take (from + n) ids) (cs ++ ds))
-    ≡ map (put_row list) (paired (take from ids) cs) ++ map (put_row list) (paired slice ds)
-piece-rows list from n ids slice cs ds is within same =
-    let len : length (take from ids) ≡ length cs = length-take-le from ids within ∙ is in
-    ap (λ (zs : List ℤ). map (put_row list) (paired zs (cs ++ ds)))
-    (take-add from n ids ∙ ap (λ (zs : List ℤ). take from ids ++ zs) (sym same))
-    ∙ ap (map (put_row list)) (paired-append (take from ids) slice cs ds len)
-    ∙ map-append (put_row list) (paired (take from ids) cs) (paired slice ds)
+-- the rows that an index gained, where its codes have so many bits
+pub rows-put : (list d n : ℕ) (old new : IvfValue) (ids : List ℤ) (codes : List ℕ) → old.dim ≡ d → length ids ≡ n
+    → new ≡ record old { rows = old.rows ++ map (put_row list) (paired ids (chunks_of (old.dim / 8) (length ids) codes)) }
+    → new.rows ≡ old.rows ++ map (put_row list) (paired ids (chunks_of (d / 8) n codes))
+rows-put list d n old new ids codes dim count is =
+    ap (λ (v : IvfValue). v.rows) is
+    ∙ ap (λ (m : ℕ). old.rows ++ map (put_row list) (paired ids (chunks_of (m / 8) (length ids) codes))) dim
+    ∙ ap (λ (m : ℕ). old.rows ++ map (put_row list) (paired ids (chunks_of (d / 8) m codes))) count
 
 -- an index whose rows or centroids alone are others
 pub rows-kept : (a b new : IvfValue) (rows : List ListRow) → b ≡ record a { rows = b.rows }
@@ -470,40 +468,6 @@ centroids-kept a b new cs kept is =
     let same : new.centroids ≡ cs = ap (λ (v : IvfValue). v.centroids) is in
     is ∙ ap (λ (v : IvfValue). record v { centroids = cs }) kept
     ∙ ap (λ (ds : List (List ℕ)). record a { centroids = ds }) (sym same)
-
-abbrev pub codes_in : List CodeList → List (List ℕ)
-codes_in pieces = flat_map (λ v. v.codes) pieces
-
--- the codes of pieces, and of one piece more
-pub codes-push : (pieces : List CodeList) (piece : CodeList)
-    → flat_map (λ (v : CodeList). v.codes) (pieces ++ piece ∷ [])
-    ≡ flat_map (λ (v : CodeList). v.codes) pieces ++ piece.codes
-codes-push [] piece = append-nil piece.codes
-codes-push (p ∷ pieces) piece =
-    ap (λ (cs : List (List ℕ)). p.codes ++ cs) (codes-push pieces piece)
-    ∙ sym (append_assoc p.codes (flat_map (λ (v : CodeList). v.codes) pieces) piece.codes)
-
--- the codes up to a piece
-pub codes-more : (pieces : List CodeList) (i : ℕ) (piece : CodeList) → i < length pieces
-    → piece ≡ get_or pieces i piece → codes_in (take (i + 1) pieces) ≡ codes_in (take i pieces) ++ piece.codes
-codes-more pieces i piece lt is =
-    ap codes_in (take_more pieces i piece lt ∙ ap (λ (p : CodeList). take i pieces ++ p ∷ []) (sym is))
-    ∙ codes-push (take i pieces) piece
-
-pub codes-within : (pieces : List CodeList) (i : ℕ) (piece : CodeList) → i < length pieces
-    → piece ≡ get_or pieces i piece
-    → length (codes_in (take i pieces)) + length piece.codes ≤ length (codes_in pieces)
-codes-within pieces i piece lt is =
-    let all : codes_in pieces ≡ codes_in (take (i + 1) pieces) ++ codes_in (drop (i + 1) pieces) =
-    ap codes_in (sym (take-append-drop (i + 1) pieces))
-    ∙ flat_map-append (λ (v : CodeList). v.codes) (take (i + 1) pieces) (drop (i + 1) pieces) in
-    omega (
-      arith,
-      ap length all,
-      length-append (codes_in (take (i + 1) pieces)) (codes_in (drop (i + 1) pieces)),
-      ap length (codes-more pieces i piece lt is),
-      length-append (codes_in (take i pieces)) piece.codes,
-    )
 
 -- ---- the rows of all lists
 
@@ -678,27 +642,6 @@ as-pair list size p l s = ap (λ (x : ℕ). made x size) l ∙ ap (λ (x : ℕ).
 pub front-none : {A : Type 0} (r : Result (List A × Place) FileFault) → with_front [] r ≡ r
 front-none (Ok y) = refl
 front-none (Err e) = refl
-
-pub paired-count : (ids : List ℤ) (cs : List (List ℕ)) → length ids ≡ length cs → length (paired ids cs) ≡ length cs
-paired-count [] [] e = refl
-paired-count (z ∷ ids) [] e = absurd (omega (arith, e))
-paired-count [] (c ∷ cs) e = absurd (omega (arith, e))
-paired-count (z ∷ ids) (c ∷ cs) e = ap suc (paired-count ids cs (omega (arith, e)))
-
--- how many rows there are with those of the first pieces
-pub front-count : (list from : ℕ) (ids : List ℤ) (cs : List (List ℕ)) (old rows : List ListRow) → from ≡ length cs
-    → from ≤ length ids → rows ≡ old ++ map (put_row list) (paired (take from ids) cs)
-    → length rows ≡ length old + from
-front-count list from ids cs old rows is within all =
-    let len : length (take from ids) ≡ length cs = length-take-le from ids within ∙ is in
-    omega (
-      arith,
-      ap length all,
-      length-append old (map (put_row list) (paired (take from ids) cs)),
-      length-map (paired (take from ids) cs) (put_row list),
-      paired-count (take from ids) cs len,
-      is,
-    )
 
 -- ---- the whole
 

@@ -2,11 +2,12 @@
 use Rattle.std.proofs.Common.{◌≡◌, ℕ, zero, suc, ◌+◌, ◌-◌, ◌*◌, ◌/◌, ◌≤◌, ◌<◌, ℤ}
 use Rattle.std.proofs.Common.{pos, Bool, true, List, [], ◌∷◌, ◌++◌, length, All, Result, Ok, Err, refl, sym}
 use Rattle.std.proofs.Common.{ap, subst, ◌∙◌, append_assoc, arith, take, drop, eqb, false, Option, Some, None}
-use Rattle.std.proofs.Common.{mul-le-mul_right}
+use Rattle.std.proofs.Common.{length-drop, mul-le-mul_right}
+use Rattle.std.proofs.Math.Nat.{suc-mul}
 use Rattle.std.specs.Prelude.{IfOk}
 use Rattle.std.proofs.lemmas.Bool.{eqb-true, ne_eqb}
 use Rattle.std.proofs.lemmas.Int.{ints}
-use Rattle.std.proofs.lemmas.List.{drop-drop}
+use Rattle.std.proofs.lemmas.List.{drop-drop, drop-append-le, nil_from_length, take-append-le}
 use Rattle.std.proofs.lemmas.List.Elements.{All-nil, All-cons}
 use Rattle.bcodes.specs.Chunks.{chunks_of}
 use Rattle.bcodes.specs.Ranges.{load_limit}
@@ -127,6 +128,25 @@ chunks_more size (suc i) bytes =
     ∙ ap (λ (cs : List (List ℕ)). take size bytes ∷ cs) (chunks_more size i (drop size bytes))
     ∙ ap (λ (b : List ℕ). (take size bytes ∷ chunks_of size i (drop size bytes)) ++ take size b ∷ [])
     (drop-drop (i * size) size bytes ∙ ap (λ (n : ℕ). drop n bytes) next)
+
+-- codes, and those behind them
+pub chunks_of-append : (size i n : ℕ) (front bytes : List ℕ) → length front ≡ i * size
+    → chunks_of size (i + n) (front ++ bytes) ≡ chunks_of size i front ++ chunks_of size n bytes
+unfolding chunks_of
+chunks_of-append size zero n front bytes h =
+    let none : front ≡ [] = nil_from_length front (omega (arith, h)) in
+    let same : 0 + n ≡ n = omega arith in
+    rw (none, same) refl
+chunks_of-append size (suc i) n front bytes h =
+    let room : length front ≡ i * size + size = h ∙ suc-mul i size in
+    let next : suc i + n ≡ suc (i + n) = omega arith in
+    let first : take size (front ++ bytes) ≡ take size front =
+    take-append-le size front bytes (omega (arith, room)) in
+    let behind : drop size (front ++ bytes) ≡ drop size front ++ bytes =
+    drop-append-le size front bytes (omega (arith, room)) in
+    let left : length (drop size front) ≡ i * size = omega (arith, length-drop size front, room) in
+    rw (next, first, behind) (ap (λ (cs : List (List ℕ)). take size front ∷ cs)
+    (chunks_of-append size i n (drop size front) bytes left))
 
 -- ---- what an index fits
 

@@ -106,6 +106,33 @@ fn an_empty_index_gives_nothing(rt: HostRuntime) -> Result<(), Fail> {
     check_range(&rt, rt.alloc(), &index, &[0, 0], 17, &[])
 }
 
+// More codes than are appended at a time, behind one that is there.
+#[test]
+fn codes_side_by_side_are_appended(rt: HostRuntime) -> Result<(), Fail> {
+    let dim = Dim::new(16)?;
+    let mut bytes = Vec::new(rt.alloc());
+    for i in 0..600u16 {
+        bytes.extend_from_slice(&i.to_le_bytes())?;
+    }
+    assert!(rt; dim.bytes() == 2 && bytes.len() == 1_200);
+    let mut index = Flat::new(rt.alloc(), dim)?;
+    index.append_bytes(1, &bytes[..2])?;
+    assert!(rt; index.dim().bytes() == 2 && index.count() == 1);
+    index.append_bytes(599, &bytes[2..])?;
+    assert_eq!(rt; index.count(), 600);
+    check_numbers(&rt, &index)
+}
+
+// The code at each position is the number of that position.
+fn check_numbers(rt: &impl Abort, index: &Flat<Plain>) -> Result<(), Fail> {
+    let mut meter = Meter::new(Plain);
+    for position in 0..index.count() {
+        let number = position.to_le_bytes();
+        assert_eq!(rt; index.code(position, &mut meter), &number[..2]);
+    }
+    Ok(())
+}
+
 // The codes that stay close up, whichever of the others leave.
 #[test]
 fn codes_leave_and_close_up(rt: HostRuntime) -> Result<(), Fail> {

@@ -54,22 +54,20 @@ fn add<R: Abort>(
 // Adds codes to a list of a small index.
 fn add_in<R: Abort>(
     rt: &R,
-    alloc: Global,
     index: &mut Ivf<Plain>,
     list: u32,
     labels: &[i64],
-    bytes: &[u8],
+    codes: &[u8],
 ) -> Result<(), Want> {
     assert!(rt; index.dim().bits() == 8);
-    let codes = codes_of(alloc, index.dim(), bytes)?;
     assert!(rt; labels.len() == codes.len());
-    assert!(rt; codes.len() < 100);
+    assert!(rt; labels.len() < 100);
     assert!(rt; index.count() < 100);
     assert!(rt; index.nlist() == 2);
     assert!(rt; index.held() == 2);
     assert!(rt; list < 2);
     assert!(rt; !index.direct());
-    index.add_in(list, labels, &codes)?;
+    index.add_in(list, labels, codes)?;
     Ok(())
 }
 
@@ -174,8 +172,8 @@ fn remove<R: Abort>(rt: &R, index: &mut Ivf<Plain>, sel: &Selector) -> Result<u6
 fn check_removal<R: Abort>(rt: &R, alloc: Global, index: &mut Ivf<Plain>) -> Result<(), Fail> {
     train(rt, index)?;
     index.set_nprobe(2);
-    add_in(rt, alloc, index, 1, &[5, -2], &[0x01, 0x03])?;
-    add_in(rt, alloc, index, 0, &[5, 6], &[0x07, 0x0f])?;
+    add_in(rt, index, 1, &[5, -2], &[0x01, 0x03])?;
+    add_in(rt, index, 0, &[5, 6], &[0x07, 0x0f])?;
     assert_eq!(rt; remove(rt, index, &Selector::all_but(alloc, &[-2, 6])?)?, 2);
     assert_eq!(rt; remove(rt, index, &Selector::range(-2, -2))?, 0);
     check_search(rt, alloc, index, 0x00, &[hit(2, -2), hit(4, 6)], 4)?;

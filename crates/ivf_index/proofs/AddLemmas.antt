@@ -1,5 +1,5 @@
 -- Lemmas on an IVF before and after an add.
-use Rattle.std.proofs.Common.{◌≡◌, ℕ, zero, suc, ◌+◌, ◌*◌, ◌/◌, ◌<◌, ◌≤◌, ◌^◌, true, nat_abs, ℤ, List, []}
+use Rattle.std.proofs.Common.{◌≡◌, ℕ, zero, suc, ◌+◌, ◌*◌, ◌/◌, ◌<◌, ◌≤◌, ◌^◌, true, false, nat_abs, ℤ, List, []}
 use Rattle.std.proofs.Common.{◌∷◌, ◌++◌, length, map, get_or, replicate, refl, ap, ◌∙◌, subst, arith}
 use Rattle.std.proofs.Common.{length-append}
 use Rattle.std.specs.declared.option.Option.{Option}
@@ -24,7 +24,7 @@ use Rattle.ivf_index.specs.Inside.{rows_in_order, IsIvf}
 use Rattle.row_lists.proofs.WeaveLemmas.{weave_same}
 use Rattle.ivf_index.proofs.TableLemmas.{given_back, table_same, table_added, list_few, length-put_rows}
 use Rattle.row_lists.proofs.PutLemmas.{length-paired}
-use Rattle.ivf_index.proofs.DirectLemmas.{IsPutOn, direct_added}
+use Rattle.ivf_index.proofs.DirectLemmas.{IsPutOn, direct_added, no_map}
 use Rattle.ivf_index.proofs.VisitLemmas.{count_is}
 
 pub light : (d n c : ℕ) → weight d 0 n c ≤ load_limit → n ≤ 67108864
@@ -46,6 +46,17 @@ prepared order lists new_order new_lists n one size r s = record {
   order_one = r.lists ∙ one;
   order_size = r.code_size ∙ size;
   same = s;
+}
+
+-- room for rows of one list leaves all rows, and so does what changes nothing
+pub same_rows : (p q : PoolLists) (list n : ℕ) → IsReserved p q list n → SameRows p q
+same_rows p q list n r = record { size = r.code_size; lists = r.lists; rows = r.rows }
+
+pub unmoved : (p q : PoolLists) → q ≡ p → SameRows p q
+unmoved p q e = record {
+  size = ap (λ (r : PoolLists). r.code_size) e;
+  lists = ap (λ (r : PoolLists). length r.lists) e;
+  rows = λ l. ap (λ (r : PoolLists). (list_at r l).rows) e;
 }
 
 pub rows_prepared : (order lists new_order new_lists : PoolLists) → IsPrepared order lists new_order new_lists
@@ -113,11 +124,27 @@ pub record IsAdded (order lists new_order new_lists : PoolLists) (ns : List ℕ)
   pub count : length new_lists.lists ≡ length lists.lists
   pub size : new_lists.code_size ≡ lists.code_size
 
+-- rows that were put into room which was made before
+pub put_in_room : (order lists mid_order mid_lists new_order new_lists : PoolLists) (ns : List ℕ) (rows : List Row)
+    → IsPrepared order lists mid_order mid_lists → order_in new_order ≡ order_in mid_order ++ ns
+    → length new_order.lists ≡ 1 → new_order.code_size ≡ 0
+    → ((l : ℕ) → lists_in new_lists l ≡ lists_in mid_lists l ++ put_on l ns rows)
+    → length new_lists.lists ≡ length mid_lists.lists → new_lists.code_size ≡ mid_lists.code_size
+    → IsAdded order lists new_order new_lists ns rows
+put_in_room order lists mid_order mid_lists new_order new_lists ns rows p order_is one order_size put count size =
+    record {
+      order_is = order_is ∙ ap (λ (os : List ℕ). os ++ ns) p.order_is;
+      order_one = one;
+      order_size = order_size;
+      rows_are = λ l. put l ∙ ap (λ (rs : List Row). rs ++ put_on l ns rows) (p.same.rows l);
+      count = count ∙ p.same.lists;
+      size = size ∙ p.same.size;
+    }
+
 module _ (dim nlist nprobe codes_most : ℕ) (entries : Option (List ℕ)) (quantizer : CodeList)
-    (order lists new_order new_lists : PoolLists) (ns places : List ℕ) (new : List Row)
+    (order lists new_order new_lists : PoolLists) (ns : List ℕ) (new : List Row)
     (h : IsIvf dim nlist nprobe codes_most entries quantizer order lists) (same : length ns ≡ length new)
-    (known : All (λ n. n < nlist) ns) (at : ArePlaces lists ns (length ns) places)
-    (added : IsAdded order lists new_order new_lists ns new) where
+    (known : All (λ n. n < nlist) ns) (added : IsAdded order lists new_order new_lists ns new) where
   table : IsTable (order_in order ++ ns) (lists_in new_lists) (rows_in_order order lists ++ put_rows ns new)
   table = table_added (order_in order) ns (lists_in lists) (lists_in new_lists)
       (rows_in_order order lists) new h.table same added.rows_are
@@ -126,17 +153,15 @@ module _ (dim nlist nprobe codes_most : ℕ) (entries : Option (List ℕ)) (quan
   rows_added = ap (λ (os : List ℕ). put_rows os (weave os (lists_in new_lists))) added.order_is
       ∙ given_back (order_in order ++ ns) (lists_in new_lists) (rows_in_order order lists ++ put_rows ns new) table
 
-  pub ivf_added : (es : Option (List ℕ)) → es ≡ extended entries places → length quantizer.codes ≡ nlist
-      → (has_map entries ≡ true
-      → map (λ (row : Row). row.label) new ≡ labels_from (length (rows_in_order order lists)) (length ns))
+  ivf_grown : (es : Option (List ℕ))
+      → IsDirectOf es nlist (lists_in new_lists) (rows_in_order order lists ++ put_rows ns new)
+      → length quantizer.codes ≡ nlist
       → weight dim 0 (length (rows_in_order order lists) + length new) (length quantizer.codes) ≤ load_limit
       → IsIvf dim nlist nprobe codes_most es quantizer new_order new_lists
-  ivf_added es e trained labels load =
+  ivf_grown es direct trained load =
       let many : length (rows_in_order new_order new_lists) ≡ length (rows_in_order order lists) + length new
       = ap length rows_added ∙ length-append (rows_in_order order lists) (put_rows ns new)
       ∙ ap (λ (n : ℕ). length (rows_in_order order lists) + n) (length-put_rows ns new same) in
-      let put : IsPutOn (lists_in lists) (lists_in new_lists) ns new nlist =
-      record { same = same; known = known; rows = added.rows_are } in
       record {
         nlist_least = h.nlist_least;
         nlist_most = h.nlist_most;
@@ -152,11 +177,31 @@ module _ (dim nlist nprobe codes_most : ℕ) (entries : Option (List ℕ)) (quan
         table = rw (rows_added, added.order_is) table;
         numbers = rw added.order_is (All-append (λ n. n < nlist) (order_in order) ns h.numbers known);
         filled = λ some. trained;
-        direct = rw (rows_added, e)
-            (direct_added lists (lists_in new_lists) entries ns places new
-            (rows_in_order order lists) nlist put at labels h.direct);
+        direct = rw rows_added direct;
         load = rw many load;
       }
+
+  pub ivf_added : (places : List ℕ) → ArePlaces lists ns (length ns) places → (es : Option (List ℕ))
+      → es ≡ extended entries places → length quantizer.codes ≡ nlist
+      → (has_map entries ≡ true
+      → map (λ (row : Row). row.label) new ≡ labels_from (length (rows_in_order order lists)) (length ns))
+      → weight dim 0 (length (rows_in_order order lists) + length new) (length quantizer.codes) ≤ load_limit
+      → IsIvf dim nlist nprobe codes_most es quantizer new_order new_lists
+  ivf_added places at es e trained labels load =
+      let put : IsPutOn (lists_in lists) (lists_in new_lists) ns new nlist =
+      record { same = same; known = known; rows = added.rows_are } in
+      let direct : IsDirectOf es nlist (lists_in new_lists) (rows_in_order order lists ++ put_rows ns new) =
+      rw e (direct_added lists (lists_in new_lists) entries ns places new (rows_in_order order lists) nlist put at
+      labels h.direct) in
+      ivf_grown es direct trained load
+
+  -- where there is no direct map
+  pub ivf_added_unmapped : has_map entries ≡ false → length quantizer.codes ≡ nlist
+      → weight dim 0 (length (rows_in_order order lists) + length new) (length quantizer.codes) ≤ load_limit
+      → IsIvf dim nlist nprobe codes_most entries quantizer new_order new_lists
+  ivf_added_unmapped off trained load =
+      let rows = rows_in_order order lists ++ put_rows ns new in
+      ivf_grown entries (no_map entries nlist (lists_in new_lists) rows off) trained load
 
 -- how many rows a list may have after an add
 pub rows_few : (dim nlist nprobe codes_most n : ℕ) (entries : Option (List ℕ)) (quantizer : CodeList)

@@ -1,7 +1,7 @@
 -- Lemmas on the direct map.
 use Rattle.std.proofs.Common.{◌≡◌, ℕ, zero, suc, ◌+◌, ◌-◌, ◌<◌, inl, inr, Bool, true, false, cond}
 use Rattle.std.proofs.Common.{nat_eq, ℤ, pos, List, [], ◌∷◌, ◌++◌, length, take, map, get_or, refl, sym, ap, ◌∙◌}
-use Rattle.std.proofs.Common.{subst, arith, length-append}
+use Rattle.std.proofs.Common.{subst, arith, length-append, true≢false}
 use Rattle.std.specs.declared.option.Option.{Option}
 use Rattle.std.specs.declared.option.Option.TheVariants.{None, Some}
 use Rattle.std.specs.List.{All}
@@ -23,6 +23,12 @@ use Rattle.ivf_index.proofs.NumberingLemmas.{numbering_grown}
 -- the label of a row on a list
 abbrev pub label_on : ListRow → ℤ
 label_on row = row.label
+
+-- there is none
+pub no_map : (entries : Option (List ℕ)) (nlist : ℕ) (lists : ℕ → List Row) (rows : List ListRow)
+    → has_map entries ≡ false → IsDirectOf entries nlist lists rows
+no_map None nlist lists rows h = tt
+no_map (Some entries) nlist lists rows h = absurd (true≢false h)
 
 -- ---- where the rows of an add stand
 

@@ -1,5 +1,5 @@
 -- Lemmas on rows that leave an IVF.
-use Rattle.std.proofs.Common.{◌≡◌, ℕ, zero, suc, ◌+◌, ◌-◌, ◌*◌, ◌/◌, ◌<◌, ◌≤◌, pos, nat_abs, Bool, true, false, true≢false, cond, nat_eq}
+use Rattle.std.proofs.Common.{◌≡◌, ℕ, zero, suc, ◌+◌, ◌-◌, ◌*◌, ◌/◌, ◌<◌, ◌≤◌, pos, nat_abs, Bool, true, false, cond, nat_eq}
 use Rattle.std.proofs.Common.{inl, inr, List, [], ◌∷◌, length, map, take, drop, get_or, set, refl, sym, ap, ◌∙◌, arith}
 use Rattle.std.proofs.Common.{length-take, length-drop, get_or-set_same}
 use Rattle.std.specs.declared.option.Option.{Option}
@@ -25,6 +25,7 @@ use Rattle.ivf_index.specs.Table.{IsTable, list_of, on_list}
 use Rattle.ivf_index.specs.Direct.{IsDirectOf, has_map}
 use Rattle.ivf_index.specs.Flags.{AreListFlags, AreOrderFlags, flags_to, row_stays}
 use Rattle.ivf_index.specs.Inside.{rows_in_order, IsIvf}
+use Rattle.ivf_index.proofs.DirectLemmas.{no_map}
 use Rattle.ivf_index.proofs.TableLemmas.{given_back}
 use Rattle.ivf_index.proofs.VisitLemmas.{count_is}
 
@@ -226,11 +227,6 @@ left_table s order left lists after rows t is gone =
     }
 
 -- ---- the IVF without them
-
-no_map : (entries : Option (List ℕ)) (nlist : ℕ) (lists : ℕ → List Row) (rows : List ListRow)
-    → has_map entries ≡ false → IsDirectOf entries nlist lists rows
-no_map None nlist lists rows h = tt
-no_map (Some entries) nlist lists rows h = absurd (true≢false h)
 
 lighter : (d m n c : ℕ) → m ≤ n → weight d 0 n c ≤ load_limit → weight d 0 m c ≤ load_limit
 lighter d m n c less h =

@@ -7,6 +7,7 @@ ghost use Rattle.bcodes.specs.Ranges.{load_limit, raised};
 ghost use Rattle.bcodes.specs.Value.{empty_ivf, is_trained, labels_from, weight, IsLegalIvf};
 ghost use Rattle.bcodes.specs.Value.{IsNumbering, Ivf as IvfForm, Bare};
 ghost use Rattle.bcodes.specs.Answers.{best, looked, near, paired, within};
+ghost use Rattle.bcodes.specs.Chunks.{chunks_of};
 ghost use Rattle.ivf_index.specs.Direct.{IsPlaced};
 ghost use Rattle.ivf_index.specs.Table.{on_list, put_row, put_rows};
 ghost use Rattle.ivf_index.specs.Found.{code_labelled};
@@ -29,7 +30,7 @@ use code_pool::{Pool, Run};
 use flat_index::Flat;
 use id_select::Selector;
 use list_scan::{range_lists, search_lists};
-use row_lists::reserve_each;
+use row_lists::{put_on_one, reserve_each};
 use std::alloc::Global;
 use std::marker::Model;
 
@@ -236,27 +237,30 @@ impl<L: Ledger> Ivf<L> {
         Ok(())
     }
 
-    /// Appends rows to a named list, whatever its centroid, as a file does that was read. It keeps
-    /// no direct map. `Want` says that memory ran out, and leaves the index as it was.
-    pub fn add_in(&mut self, list: u32, labels: &[i64], codes: &Codes) -> Result<(), Want>
+    /// Appends rows to a named list, whatever its centroid, as a file does that was read. Their
+    /// codes lie side by side. It keeps no direct map. `Want` says that memory ran out, and leaves
+    /// the index as it was.
+    pub fn add_in(&mut self, list: u32, labels: &[i64], codes: &[u8]) -> Result<(), Want>
         requires exists { list < self.old.nlist }
-        requires same_count { length labels.now ≡ length codes.now.codes }
+        requires whole { length codes.now ≡ length labels.now * (self.old.dim / 8) }
         requires is_trained { IsTrue (is_trained (Bare (IvfForm self.old))) }
-        requires same_dim { codes.now.dim ≡ self.old.dim }
         requires direct { self.old.direct ≡ false }
-        requires load { weight self.old.dim 0 (length self.old.rows + length codes.now.codes)
+        requires load { weight self.old.dim 0 (length self.old.rows + length labels.now)
             (length self.old.centroids) ≤ load_limit }
         ensures ok { OnOk result (self.new ≡ record self.old {
-          rows = self.old.rows
-              ++ map (put_row list) (paired labels.now codes.now.codes);
+          rows = self.old.rows ++ map (put_row list)
+              (paired labels.now (chunks_of (self.old.dim / 8) (length labels.now) codes.now));
         }) }
         ensures err { OnErr result (self.new ≡ self.old) }
     {
         // For the proof that all centroids are held: the fields tell that there are no more than
         // lists.
         let _ = &self.quantizer;
-        let numbers = vec![in self.alloc; list; codes.len()]?;
-        self.put(&numbers, labels, codes)?;
+        let count = labels.len();
+        let size = self.dim.bytes();
+        self.order.reserve(0, count)?;
+        self.lists.reserve(list, count)?;
+        put_on_one(&mut self.order, &mut self.lists, list, labels, codes, size);
         Ok(())
     }
 

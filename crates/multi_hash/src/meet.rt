@@ -110,12 +110,29 @@ fn meet_lists<L: Ledger>(
     let mut seen = Seen::new(alloc, count)?;
     let rows = count_rows(buckets, lists);
     let mut met = Vec::with_capacity(alloc, rows.min(count))?;
-    let mut waiting = Vec::with_capacity(alloc, rows.min(WAITING))?;
+    let mut waiting = Vec::with_capacity(alloc, rows.min(WAITING).max(1))?;
+    // Kept for a moment, so that the reads are not left out.
+    waiting.push_reserved(fetch_firsts(buckets, lists));
+    waiting.clear();
     for list in lists {
         gather_list(buckets, *list, &mut waiting, &mut seen, &mut met)?;
     }
     meet_run(&waiting, &mut seen, &mut met)?;
     Ok(met)
+}
+
+// Reads the first label of each of some lists, whose value is of no use yet: the processor waits for
+// all of these reads together, and then finds them in its caches.
+fn fetch_firsts<L: Ledger>(buckets: &Pool<L>, lists: &[u32]) -> i64
+    requires { All (λ l. l < length buckets.now.lists) lists.now }
+{
+    let mut firsts = 0;
+    for list in lists {
+        if buckets.len(*list) > 0 {
+            firsts ^= buckets.labels(*list, 0)[0];
+        }
+    }
+    firsts
 }
 
 // The number of rows on some lists.

@@ -1,8 +1,8 @@
-ghost use Rattle.std.specs.Prelude.{◌≡◌, ◌+◌, ◌<◌, ◌≤◌, length};
+ghost use Rattle.std.specs.Prelude.{◌≡◌, ◌+◌, ◌*◌, ◌<◌, ◌≤◌, length};
 ghost use Rattle.code_pool.specs.Lists.{list_at};
 
 use bcodes::{Meter, Plain};
-use code_pool::{Pool, Room};
+use code_pool::{Pool, Room, Run};
 use std::alloc::Global;
 use std::process::Abort;
 use std::test::Fail;
@@ -182,6 +182,58 @@ fn walks_over_scattered_blocks(rt: HostRuntime) -> Result<(), Fail> {
     assert_eq!(&rt; run.codes, &[0, 7, 1, 7][..]);
     assert_eq!(&rt; walk.at(), 6);
     assert_eq!(&rt; meter.lent(), 6);
+    Ok(())
+}
+
+// Pushes a run onto a list.
+fn add_run<R: Abort>(rt: &R, pool: &mut Pool<Plain>, list: u32, run: Run<'_>) -> Result<(), Fail>
+    requires exists { list < length pool.old.lists }
+    requires size { pool.old.code_size ≡ 2 }
+    requires whole { length run.codes.now ≡ length run.labels.now * 2 }
+    ensures lists { length pool.new.lists ≡ length pool.old.lists }
+    ensures size { pool.new.code_size ≡ 2 }
+{
+    assert!(rt; pool.len(list) < 1000);
+    assert!(rt; run.labels.len() < 1000);
+    pool.reserve(list, run.labels.len())?;
+    pool.push_run(list, run);
+    Ok(())
+}
+
+// Runs that go to two lists in turn, each from one block of its list on into others that do not
+// stand side by side.
+#[test]
+fn pushes_runs_over_blocks(rt: HostRuntime) -> Result<(), Fail> {
+    let mut pool: Pool<Plain> = Pool::new(rt.alloc(), 2);
+    pool.open_list()?;
+    pool.open_list()?;
+    let run = Run {
+        labels: &[1, 2, 3, 4, 5, 6],
+        codes: &[1, 7, 2, 7, 3, 7, 4, 7, 5, 7, 6, 7],
+    };
+    let negative = Run {
+        labels: &[-1, -2, -3],
+        codes: &[1, 9, 2, 9, 3, 9],
+    };
+    add_run(&rt, &mut pool, 1, negative)?;
+    add_run(&rt, &mut pool, 0, negative)?;
+    add_run(&rt, &mut pool, 1, run)?;
+    add_run(&rt, &mut pool, 0, run)?;
+    assert_eq!(&rt; pool.room(), Room { used: 6, free: 0 });
+    let mut meter = Meter::new(Plain);
+    assert!(&rt; pool.len(0) == 9);
+    let part = pool.lend(0, 0, &mut meter);
+    assert_eq!(&rt; part.labels, &[-1, -2, -3, 1][..]);
+    assert_eq!(&rt; part.codes, &[1, 9, 2, 9, 3, 9, 1, 7][..]);
+    let part = pool.lend(0, 4, &mut meter);
+    assert_eq!(&rt; part.labels, &[2, 3, 4, 5, 6][..]);
+    assert_eq!(&rt; part.codes, &[2, 7, 3, 7, 4, 7, 5, 7, 6, 7][..]);
+    assert!(&rt; pool.len(1) == 9);
+    let part = pool.lend(1, 0, &mut meter);
+    assert_eq!(&rt; part.labels, &[-1, -2, -3, 1][..]);
+    let part = pool.lend(1, 4, &mut meter);
+    assert_eq!(&rt; part.labels, &[2, 3, 4, 5, 6][..]);
+    assert_eq!(&rt; part.codes, &[2, 7, 3, 7, 4, 7, 5, 7, 6, 7][..]);
     Ok(())
 }
 

@@ -1,13 +1,16 @@
 -- Lemmas on rows that are put on lists.
-use Rattle.std.proofs.Common.{◌≡◌, ℕ, zero, suc, ◌+◌, ◌<◌, ◌≤◌, inl, inr, Bool, true, false, cond}
-use Rattle.std.proofs.Common.{nat_eq, nat_abs, ℤ, pos, List, [], ◌∷◌, ◌++◌, length, take, map, get_or, refl, sym, ap}
+use Rattle.std.proofs.Common.{◌≡◌, ℕ, zero, suc, ◌+◌, ◌-◌, ◌<◌, ◌≤◌, inl, inr, Bool, true, false, cond}
+use Rattle.std.proofs.Common.{nat_eq, nat_abs, ℤ, pos, List, [], ◌∷◌, ◌++◌, length, take, drop, map, get_or, refl, sym, ap}
 use Rattle.std.proofs.Common.{◌∙◌, arith, length-append, append_assoc, append-nil, length-set, length-take, replicate}
-use Rattle.std.proofs.lemmas.List.{map-append, take_more}
+use Rattle.std.proofs.lemmas.List.{length-replicate, map-append, replicate-append-replicate, take_more}
 use Rattle.std.proofs.lemmas.Bool.{eq-eqb, ne_eqb}
 use Rattle.std.proofs.lemmas.Bool.Decides.{eqb_tells}
 use Rattle.bcodes.specs.Value.{Row}
 use Rattle.bcodes.specs.Answers.{paired}
-use Rattle.code_pool.specs.Lists.{PoolLists, PoolList, list_at, with_row, no_row}
+use Rattle.bcodes.specs.Chunks.{chunks_of}
+use Rattle.bcodes.proofs.ChunkLemmas.{length-chunks_of}
+use Rattle.code_pool.specs.Lists.{PoolLists, PoolList, list_at, rows_in, with_list, with_row, with_rows, no_row}
+use Rattle.code_pool.proofs.RowLemmas.{length-rows_in}
 use Rattle.flip_walk.specs.Patterns.{times, under}
 use Rattle.row_lists.specs.Put.{put_on, mark_of, IsPushed, IsPut}
 use Rattle.row_lists.specs.Room.{HasRoomFor}
@@ -224,15 +227,79 @@ times-replicate l list zero = none (nat_eq list l)
 times-replicate l list (suc n) = ap (λ (m : ℕ). cond {A = ℕ} (nat_eq list l) 1 0 + m) (times-replicate l list n)
     ∙ step_replicate (nat_eq list l) n
 
--- room on the list is room for all
-pub room_on_one : (p : PoolLists) (list n : ℕ) → n ≤ (list_at p list).spare → HasRoomFor (replicate n list) p
-room_on_one p list n room l =
+pub put_on-one : (list : ℕ) (rows : List Row) → put_on list (replicate (length rows) list) rows ≡ rows
+put_on-one list [] = refl
+put_on-one list (row ∷ rows) =
+    ap (λ (b : Bool). cond b (row ∷ put_on list (replicate (length rows) list) rows)
+    (put_on list (replicate (length rows) list) rows)) (eq-eqb list list refl)
+    ∙ ap (λ (rs : List Row). row ∷ rs) (put_on-one list rows)
+
+pub put_on-another : (l list n : ℕ) (rows : List Row) → nat_eq list l ≡ false → put_on l (replicate n list) rows ≡ []
+put_on-another l list n rows ne =
+    put_on-none l (replicate n list) rows
+    (times-replicate l list n ∙ ap (λ (b : Bool). cond {A = ℕ} b n 0) ne)
+
+pub rows_in-paired : (size : ℕ) (ls : List ℤ) (bs : List ℕ)
+    → rows_in size ls bs ≡ paired ls (chunks_of size (length ls) bs)
+unfolding rows_in chunks_of
+rows_in-paired size [] bs = refl
+rows_in-paired size (l ∷ ls) bs =
+    ap (λ (rs : List Row). record { label = l; code = take size bs } ∷ rs) (rows_in-paired size ls (drop size bs))
+
+-- a run that is pushed on a list
+pub rows_run : (p q : PoolLists) (list size : ℕ) (ls : List ℤ) (bs : List ℕ) → list < length p.lists
+    → p.code_size ≡ size
+    → q ≡ with_list p list (with_rows (list_at p list) (rows_in p.code_size ls bs))
+    → (l : ℕ) → lists_in q l
+    ≡ lists_in p l ++ put_on l (replicate (length ls) list) (paired ls (chunks_of size (length ls) bs))
+rows_run p q list size ls bs here same is l =
+    let rows : rows_in p.code_size ls bs ≡ paired ls (chunks_of size (length ls) bs) =
+    ap (λ (n : ℕ). rows_in n ls bs) same ∙ rows_in-paired size ls bs in
+    let many : length (paired ls (chunks_of size (length ls) bs)) ≡ length ls =
+    length-paired ls (chunks_of size (length ls) bs) (sym (length-chunks_of size (length ls) bs))
+    ∙ length-chunks_of size (length ls) bs in
     elim (eqb_tells list l) [
-      | inl t ↦ omega (
-        arith,
-        room,
-        times-replicate l list n ∙ ap (λ (b : Bool). cond {A = ℕ} b n 0) t.0,
-        ap (λ (m : ℕ). (list_at p m).spare) t.1,
-      )
-      | inr t ↦ omega (arith, times-replicate l list n ∙ ap (λ (b : Bool). cond {A = ℕ} b n 0) t.0)
+      | inl t ↦ rw (← t.1) (
+          ap (λ (x : PoolLists). lists_in x list) is
+          ∙ ap (λ (x : PoolList). x.rows) (at_same p list _ here)
+          ∙ ap (λ (rs : List Row). lists_in p list ++ rs) (rows
+          ∙ sym (put_on-one list (paired ls (chunks_of size (length ls) bs)))
+          ∙ ap (λ (n : ℕ). put_on list (replicate n list) (paired ls (chunks_of size (length ls) bs))) many)
+          )
+      | inr t ↦ ap (λ (x : PoolLists). lists_in x l) is
+          ∙ ap (λ (x : PoolList). x.rows) (at_other p list l _ (λ e. t.1 (sym e)))
+          ∙ sym (append-nil (lists_in p l))
+          ∙ ap (λ (rs : List Row). lists_in p l ++ rs)
+          (sym (put_on-another l list (length ls) (paired ls (chunks_of size (length ls) bs)) t.0))
     ]
+
+order-marks : (size list n : ℕ) (bs : List ℕ)
+    → map (λ (row : Row). nat_abs row.label) (rows_in size (replicate n (pos list)) bs) ≡ replicate n list
+unfolding rows_in
+order-marks size list zero bs = refl
+order-marks size list (suc n) bs = ap (λ (ns : List ℕ). list ∷ ns) (order-marks size list n (drop size bs))
+
+-- a run of marks of a list that is pushed on the order
+pub order_run : (p q : PoolLists) (os : List ℕ) (list n more : ℕ) (ls : List ℤ) (bs : List ℕ) → length p.lists ≡ 1
+    → q ≡ with_list p 0 (with_rows (list_at p 0) (rows_in p.code_size ls bs)) → ls ≡ replicate more (pos list)
+    → order_in p ≡ os ++ replicate n list → order_in q ≡ os ++ replicate (n + more) list
+order_run p q os list n more ls bs one is marks before =
+    ap order_in is
+    ∙ ap (λ (x : PoolList). map (λ (row : Row). nat_abs row.label) x.rows) (at_same p 0 _ (omega arith))
+    ∙ map-append (λ (row : Row). nat_abs row.label) (list_at p 0).rows (rows_in p.code_size ls bs)
+    ∙ ap (λ (xs : List ℤ). order_in p ++ map (λ (row : Row). nat_abs row.label) (rows_in p.code_size xs bs)) marks
+    ∙ ap (λ (ns : List ℕ). order_in p ++ ns) (order-marks p.code_size list more bs)
+    ∙ ap (λ (ns : List ℕ). ns ++ replicate more list) before
+    ∙ append_assoc os (replicate n list) (replicate more list)
+    ∙ ap (λ (ns : List ℕ). os ++ ns) (replicate-append-replicate n more list)
+
+-- and how much room is left
+pub order_room : (p q : PoolLists) (list more : ℕ) (ls : List ℤ) (bs : List ℕ) → length p.lists ≡ 1
+    → q ≡ with_list p 0 (with_rows (list_at p 0) (rows_in p.code_size ls bs)) → ls ≡ replicate more (pos list)
+    → (list_at q 0).spare ≡ (list_at p 0).spare - more
+order_room p q list more ls bs one is marks =
+    let count : length (rows_in p.code_size ls bs) ≡ more = length-rows_in p.code_size ls bs
+    ∙ ap (λ (xs : List ℤ). length xs) marks ∙ length-replicate more (pos list) in
+    ap (λ (x : PoolLists). (list_at x 0).spare) is
+    ∙ ap (λ (x : PoolList). x.spare) (at_same p 0 (with_rows (list_at p 0) (rows_in p.code_size ls bs)) (omega arith))
+    ∙ ap (λ (n : ℕ). (list_at p 0).spare - n) count

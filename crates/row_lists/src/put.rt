@@ -7,8 +7,8 @@ ghost use Rattle.row_lists.specs.Put.{IsPushed, mark_of, put_on};
 ghost use Rattle.row_lists.specs.Room.{HasRoomFor};
 ghost use Rattle.row_lists.specs.Rows.{lists_in, order_in};
 
-use bcodes::{Codes, Ledger, code_at};
-use code_pool::Pool;
+use bcodes::{Codes, Ledger};
+use code_pool::{Pool, Run};
 
 /// Puts rows on the lists of these numbers, on which there is room, and notes their order. It takes
 /// no memory.
@@ -68,8 +68,32 @@ pub fn put_on_one<L: Ledger>(
     ensures lists { length lists.new.lists ≡ length lists.old.lists }
     ensures size { lists.new.code_size ≡ lists.old.code_size }
 {
-    for i in 0..labels.len() {
-        put_row(order, lists, list, labels[i], code_at(codes, size, i));
+    lists.push_run(list, Run { labels, codes });
+    note_run(order, list, labels.len());
+}
+
+// So many rows are noted at a time.
+const MARKS: usize = 256;
+
+// Notes as the next `n` rows in the order those of a list.
+fn note_run<L: Ledger>(order: &mut Pool<L>, list: u32, n: usize)
+    requires one { length order.old.lists ≡ 1 }
+    requires size { order.old.code_size ≡ 0 }
+    requires room { n ≤ (list_at order.old 0).spare }
+    ensures order { order_in order.new ≡ order_in order.old ++ replicate n list }
+    ensures one { length order.new.lists ≡ 1 }
+    ensures size { order.new.code_size ≡ 0 }
+{
+    let marks = [i64::from(list); MARKS];
+    let mut done = 0;
+    while done < n {
+        let more = (n - done).min(MARKS);
+        let run = Run {
+            labels: &marks[..more],
+            codes: &[],
+        };
+        order.push_run(0, run);
+        done += more;
     }
 }
 

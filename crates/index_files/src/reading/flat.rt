@@ -86,12 +86,13 @@ fn read_codes<H: Shelf>(
     ensures dim { flat.new.dim ≡ dim.bits }
     ensures count { OnOk result (length flat.new.codes ≡ count) }
 {
-    let most = (PIECE / dim.bytes()) as u64;
+    let size = dim.bytes();
+    let most = (PIECE / size) as u64;
     let mut done = 0;
     while done < count {
         let n = (count - done).min(most);
-        let codes = read_piece(alloc, feed, dim, n as usize)?;
-        flat.append(&codes)?;
+        let bytes = read_bytes(alloc, feed, size, n as usize)?;
+        flat.append_bytes(n as usize, &bytes)?;
         done += n;
     }
     Ok(())
@@ -114,11 +115,31 @@ pub fn read_piece<H: Shelf>(
     ensures dim { IfOk result (λ codes. codes.dim ≡ dim.bits) }
     ensures count { IfOk result (λ codes. length codes.codes ≡ n) }
 {
-    let size = dim.bytes();
-    let mut bytes = vec![in alloc; 0u8; n * size]?;
-    read_records(feed, &mut bytes, n, size)?;
+    let bytes = read_bytes(alloc, feed, dim.bytes(), n)?;
     let codes = codes_of(alloc, dim, n, &bytes)?;
     Ok(codes)
+}
+
+/// Reads `n` codes of `size` bytes each, of at most 65,536 bytes together. They lie side by side.
+pub fn read_bytes<H: Shelf>(
+    alloc: Global,
+    feed: &mut Feed<'_, H>,
+    size: usize,
+    n: usize,
+) -> Result<Vec<u8>, PartError>
+    requires reading { IsTrue (H.is_reading (shelf_of feed.old)) }
+    requires size { 0 < size }
+    requires few { n * size ≤ 65536 }
+    ensures gives { GivesField H.contents (λ bytes. chunks_of size n bytes.items)
+        (repeated n (bytes_field size no_check))
+        feed.old feed.new result }
+    ensures shelf { StaysOver H.contents H.is_reading H.faults feed.old feed.new
+        (IsErrOf result PartError.Failed) }
+    ensures count { IfOk result (λ bytes. length bytes.items ≡ n * size) }
+{
+    let mut bytes = vec![in alloc; 0u8; n * size]?;
+    read_records(feed, &mut bytes, n, size)?;
+    Ok(bytes)
 }
 
 fn read_records<H: Shelf>(

@@ -1,24 +1,23 @@
-ghost use Rattle.std.specs.Prelude.{◌≡◌, ◌+◌, ◌/◌, ◌<◌, ◌≤◌, ◌++◌, ◌||◌, [], IfOk, IsErrOf, IsTrue, OnOk, OnErr};
-ghost use Rattle.std.specs.Prelude.{drop, false, is_some, length, map, true};
-ghost use Rattle.std.specs.List.{All, flat_map};
-ghost use Rattle.bcodes.specs.Answers.{paired};
+ghost use Rattle.std.specs.Prelude.{◌≡◌, ◌+◌, ◌*◌, ◌/◌, ◌<◌, ◌≤◌, ◌++◌, ◌||◌, [], IfOk, IsErrOf, IsTrue};
+ghost use Rattle.std.specs.Prelude.{OnOk, drop, false, is_some, length, map, true};
+ghost use Rattle.std.specs.List.{All};
+ghost use Rattle.bcodes.specs.Chunks.{chunks_of};
 ghost use Rattle.bcodes.specs.Ranges.{load_limit};
-ghost use Rattle.bcodes.specs.Value.{IsCode, IsNumbering, IsPlace, row_of, weight};
+ghost use Rattle.bcodes.specs.Value.{IsNumbering, IsPlace, row_of, weight};
 ghost use Rattle.file_parts.specs.Fields.{bytes_field, no_check, repeated};
 ghost use Rattle.file_parts.specs.Feeding.{GivesField, StaysOver, shelf_of};
 ghost use Rattle.index_files.specs.FlatFormat.{is_inside};
 ghost use Rattle.index_files.specs.IvfFormat.{list_rows, rows_in};
 ghost use Rattle.index_files.specs.IvfSteps.{AreFilled, AreListRows, row_lists};
-ghost use Rattle.ivf_index.specs.Table.{put_row};
 
-use crate::reading::flat::{PIECE, read_piece};
+use crate::reading::flat::{PIECE, read_bytes};
 use crate::reading::ivf::ids::{IdChecks, read_list_ids};
 use crate::reading::ivf::sizes::ListSize;
-use bcodes::{Codes, Dim, Plain, Want};
+use bcodes::{Dim, Plain, are_bytes};
 use file_parts::{Feed, PartError};
 use ivf_index::Ivf;
 use outside::Shelf;
-use std::alloc::Global;
+use std::alloc::{AllocError, Global};
 
 /// Puts the rows of the lists of these sizes on an index that has none.
 pub fn read_rows<H: Shelf>(
@@ -85,63 +84,49 @@ fn read_list<H: Shelf>(
     ensures read { OnOk result (AreListRows checks.now (dim.bits / 8)
         (record { list = list; size = size }) (drop (length ivf.old.rows) ivf.new.rows)) }
 {
-    let pieces = read_pieces(alloc, feed, dim, size)?;
+    let codes = read_codes(alloc, feed, dim.bytes(), size)?;
     let ids = read_list_ids(alloc, feed, checks, list, size)?;
-    add_pieces(ivf, list, &ids, &pieces)?;
+    are_bytes(&codes);
+    ivf.add_in(list, &ids, &codes)?;
     Ok(())
 }
 
-// So many codes, in pieces of at most 65,536 bytes.
-fn read_pieces<H: Shelf>(
+// So many codes of `size` bytes each, read in pieces of at most 65,536 bytes. They lie side by side.
+fn read_codes<H: Shelf>(
     alloc: Global,
     feed: &mut Feed<'_, H>,
-    dim: Dim,
+    size: usize,
     count: u32,
-) -> Result<Vec<Codes>, PartError>
-    requires { IsTrue (H.is_reading (shelf_of feed.old)) }
-    ensures gives { GivesField H.contents (λ pieces. flat_map (λ c. c.codes) pieces.items)
-        (repeated count (bytes_field (dim.bits / 8) no_check)) feed.old feed.new result }
+) -> Result<Vec<u8>, PartError>
+    requires reading { IsTrue (H.is_reading (shelf_of feed.old)) }
+    requires some { 0 < size }
+    requires few { size ≤ 8192 }
+    ensures gives { GivesField H.contents (λ codes. chunks_of size count codes.items)
+        (repeated count (bytes_field size no_check)) feed.old feed.new result }
     ensures shelf { StaysOver H.contents H.is_reading H.faults feed.old feed.new
         (IsErrOf result PartError.Failed) }
-    ensures dim { IfOk result (λ pieces. All (λ c. c.dim ≡ dim.bits) pieces.items) }
-    ensures count { IfOk result (λ pieces.
-        length (flat_map (λ c. c.codes) pieces.items) ≡ count) }
-    ensures codes { IfOk result (λ pieces.
-        All (IsCode dim.bits) (flat_map (λ c. c.codes) pieces.items)) }
+    ensures count { IfOk result (λ codes. length codes.items ≡ count * size) }
 {
-    let most = (PIECE / dim.bytes()) as u32;
-    let mut pieces = Vec::new(alloc);
+    let most = (PIECE / size) as u32;
+    let mut codes = Vec::new(alloc);
     let mut done = 0;
     while done < count {
         let n = (count - done).min(most);
-        let codes = read_piece(alloc, feed, dim, n as usize)?;
-        // For the proof that these are codes.
-        let _dim = codes.dim();
-        pieces.push(codes)?;
+        let bytes = read_bytes(alloc, feed, size, n as usize)?;
+        join(&mut codes, bytes)?;
         done += n;
     }
-    Ok(pieces)
+    Ok(codes)
 }
 
-// Puts codes on a list, under so many ids.
-fn add_pieces(ivf: &mut Ivf<Plain>, list: u32, ids: &[i64], pieces: &[Codes]) -> Result<(), Want>
-    requires exists { list < ivf.old.nlist }
-    requires dim { All (λ c. c.dim ≡ ivf.old.dim) pieces.now }
-    requires count { length ids.now ≡ length (flat_map (λ c. c.codes) pieces.now) }
-    requires direct { ivf.old.direct ≡ false }
-    requires trained { ivf.old.nlist ≤ length ivf.old.centroids }
-    requires load { weight ivf.old.dim 0 (length ivf.old.rows + length ids.now)
-        (length ivf.old.centroids) ≤ load_limit }
-    ensures rows { OnOk result (ivf.new.rows ≡ ivf.old.rows
-        ++ map (put_row list) (paired ids.now (flat_map (λ c. c.codes) pieces.now))) }
-    ensures ivf { ivf.new ≡ record ivf.old { rows = ivf.new.rows } }
+// Puts bytes behind others. The first are taken over as they are.
+fn join(bytes: &mut Vec<u8>, more: Vec<u8>) -> Result<(), AllocError>
+    ensures { OnOk result (bytes.new.items ≡ bytes.old.items ++ more.items) }
 {
-    let mut from = 0;
-    for i in 0..pieces.len() {
-        let piece = &pieces[i];
-        let end = from + piece.len();
-        ivf.add_in(list, &ids[from..end], piece)?;
-        from = end;
+    if bytes.is_empty() {
+        *bytes = more;
+        return Ok(());
     }
-    Ok(())
+    bytes.reserve_exact(more.len())?;
+    bytes.extend_from_slice(&more)
 }

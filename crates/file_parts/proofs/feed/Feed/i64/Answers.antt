@@ -9,4 +9,4 @@ pub returns-clause-gives : goal.returns-clause-gives
 returns-clause-gives g c = λ told.
     let fits : FitsSigned w64 c.read_i64.result = search rules in
     rw (to_z-of_z w64 c.read_i64.result fits)
-    (signed_gives 8 _ _ c.bytes.new.into c.read_i64.result (c.in_ok-bytes.ensures.gives told) c.read_i64.ensures)
+    (signed_gives 8 _ _ c.in_ok-bytes.bytes c.read_i64.result (c.in_ok-bytes.ensures.gives told) c.read_i64.ensures)

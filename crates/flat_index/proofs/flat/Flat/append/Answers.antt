@@ -1,32 +1,17 @@
-use Rattle.std.proofs.Common.{◌≡◌, ◌≤◌, ◌+◌, ◌++◌, ℕ, List, length, ap, ◌∙◌, arith, length-append}
+use Rattle.std.proofs.Common.{◌++◌, ℕ, List, length, refl, ap, ◌∙◌, arith}
 use Rattle.std.proofs.lemmas.List.{length-map}
-use Rattle.bcodes.specs.Ranges.{load_limit}
-use Rattle.bcodes.specs.Value.{Row, CodeList, weight}
+use Rattle.bcodes.specs.Value.{Row, CodeList}
 use Rattle.code_pool.specs.Lists.{list_at}
 use Rattle.flat_index.specs.Inside.{codes_in}
-use Rattle.flat_index.proofs.AddLemmas.{added, flat_added, codes_added, light}
+use Rattle.flat_index.proofs.AddLemmas.{added, flat_added, codes_added, few_inside, load_inside}
 use Rattle.flat_index.proofs.flat.Flat.append.Goals as goal
-
--- the load, seen from inside
-inside_load : (v seen : CodeList) (cs : List (List ℕ)) → v ≡ seen
-    → weight seen.dim 0 (length seen.codes + length cs) 0 ≤ load_limit
-    → weight v.dim 0 (length (v.codes ++ cs)) 0 ≤ load_limit
-inside_load v seen cs is h = rw (length-append v.codes cs, is) h
-
-few : (v seen : CodeList) (cs : List (List ℕ)) → v ≡ seen
-    → weight seen.dim 0 (length seen.codes + length cs) 0 ≤ load_limit → length v.codes + length cs ≤ 67108864
-few v seen cs is h = omega (
-  arith,
-  light v.dim (length (v.codes ++ cs)) (inside_load v seen cs is h),
-  length-append v.codes cs,
-)
 
 pub reserve-requires-clause-few : goal.reserve-requires-clause-few
 reserve-requires-clause-few g c =
     omega (
       arith,
-      few (record { dim = c.self.inside.dim.bits; codes = codes_in c.self.inside.pool }) c.args.self.now
-          c.args.codes.now.codes c.self.view_is c.requires.load,
+      few_inside (record { dim = c.self.inside.dim.bits; codes = codes_in c.self.inside.pool }) c.args.self.now
+          (length c.args.codes.now.codes) c.self.view_is c.requires.load,
       c.len.ensures.value,
       length-map (list_at c.self.inside.pool 0).rows (λ (row : Row). row.code),
     )
@@ -35,8 +20,8 @@ pub append_all-requires-clause-few : goal.append_all-requires-clause-few
 append_all-requires-clause-few g c =
     omega (
       arith,
-      few (record { dim = c.self.inside.dim.bits; codes = codes_in c.self.inside.pool }) c.args.self.now
-          c.args.codes.now.codes c.self.view_is c.requires.load,
+      few_inside (record { dim = c.self.inside.dim.bits; codes = codes_in c.self.inside.pool }) c.args.self.now
+          (length c.args.codes.now.codes) c.self.view_is c.requires.load,
       c.len-count.ensures.value,
       length-map (list_at c.self.inside.pool 0).rows (λ (row : Row). row.code),
     )
@@ -48,8 +33,8 @@ invariant_of-self-2 g c =
     c.append_all.ensures.size in
     flat_added c.self.inside.dim.bits c.self.inside.pool c.append_all.new.pool c.len-count.result
     c.args.codes.now.codes c.self.invariant c.len-count.ensures.value a
-    (inside_load (record { dim = c.self.inside.dim.bits; codes = codes_in c.self.inside.pool }) c.args.self.now
-    c.args.codes.now.codes c.self.view_is c.requires.load)
+    (load_inside (record { dim = c.self.inside.dim.bits; codes = codes_in c.self.inside.pool }) c.args.self.now
+    (length c.args.codes.now.codes) c.args.codes.now.codes c.self.view_is refl c.requires.load)
 
 pub returns-clause-ok : goal.returns-clause-ok
 returns-clause-ok g c =

@@ -9,12 +9,12 @@ use Rattle.index_files.proofs.reading.flat.read_codes.Given as goal
 abbrev pub invariant-loop-done : goal.invariant-loop-done
 invariant-loop-done g l = record {
   within : l.done ≤ l.count;
-  dim : l.flat.dim ≡ l.dim.bits;
+  dim : l.flat.dim ≡ l.fn.dim.bits;
   count : length l.flat.codes ≡ l.done;
   so_far : IsTold (g.H.Shelf.contents (shelf_of l.fn.feed))
-      → with_front l.flat.codes (run (repeated (l.count - l.done) (bytes_field (l.dim.bits / 8) no_check))
+      → with_front l.flat.codes (run (repeated (l.count - l.done) (bytes_field (l.fn.dim.bits / 8) no_check))
       (place g.H.Shelf.contents l.feed))
-      ≡ run (repeated l.count (bytes_field (l.dim.bits / 8) no_check)) (place g.H.Shelf.contents l.fn.feed);
+      ≡ run (repeated l.count (bytes_field (l.fn.dim.bits / 8) no_check)) (place g.H.Shelf.contents l.fn.feed);
   same_shelf : name_of l.feed ≡ name_of l.fn.feed;
   files : KeepsFiles (g.H.Shelf.contents (shelf_of l.fn.feed)) (g.H.Shelf.contents (shelf_of l.feed));
   reading : g.H.Shelf.is_reading (shelf_of l.feed) ≡ g.H.Shelf.is_reading (shelf_of l.fn.feed);

@@ -146,9 +146,8 @@ invariant_of-self-2 g c =
     let load_new : weight i.dim.bits 0 (length (rows_in_order i.order i.lists) + length new)
     (length i.quantizer.codes) ≤ load_limit = rw many load in
     ivf_added i.dim.bits i.nlist i.nprobe i.max_codes
-    (entries_of i.direct) i.quantizer i.order i.lists c.put_all.new.order c.put_all.new.lists ns m.places new
-    c.self.invariant same known at a
-    (entries_of c.put_all.new.direct) es trained labels load_new
+    (entries_of i.direct) i.quantizer i.order i.lists c.put_all.new.order c.put_all.new.lists ns new c.self.invariant
+    same known a m.places at (entries_of c.put_all.new.direct) es trained labels load_new
 
 pub returns-clause-ok : goal.returns-clause-ok
 returns-clause-ok g c =
@@ -172,8 +171,6 @@ returns-clause-ok g c =
       size = c.put_all.ensures.size ∙ c.reserve_each.ensures.same.size;
     } in
     let m = c.put_all.ensures.direct in
-    let at : ArePlaces i.lists ns (length ns) m.places = places_kept i.lists c.reserve_each.new.lists ns
-    (length ns) m.places c.reserve_each.ensures.same m.are in
     let es : has_map (entries_of c.put_all.new.direct) ≡ has_map (entries_of i.direct)
     = ap has_map (m.entries
     ∙ ap (λ (o : Option (List ℕ)). extended o m.places) c.in_ok-reserve_places.ensures.entries)
@@ -185,6 +182,6 @@ returns-clause-ok g c =
     (value_in i.dim.bits i.nlist i.nprobe i.max_codes (entries_of i.direct) i.quantizer i.order i.lists)
     { rows = rows })
     (rows_added i.dim.bits i.nlist i.nprobe i.max_codes
-    (entries_of i.direct) i.quantizer i.order i.lists c.put_all.new.order c.put_all.new.lists ns m.places new
-    c.self.invariant same known at a)
+    (entries_of i.direct) i.quantizer i.order i.lists c.put_all.new.order c.put_all.new.lists ns new c.self.invariant
+    same known a)
     ∙ ap (λ (w : IvfValue). record w { rows = w.rows ++ put_rows ns new }) c.self.view_is

@@ -1,23 +1,20 @@
-use Rattle.std.proofs.Common.{◌≡◌, ◌-◌, ◌/◌, ◌≤◌, All, length}
-use Rattle.std.specs.List.{flat_map}
+use Rattle.std.proofs.Common.{◌≡◌, ◌-◌, ◌*◌, ◌≤◌, length}
 use Rattle.outside.specs.Calls.{KeepsFiles}
-use Rattle.bcodes.specs.Value.{IsCode}
+use Rattle.bcodes.specs.Chunks.{chunks_of}
 use Rattle.file_parts.specs.Format.{run}
 use Rattle.file_parts.specs.Fields.{bytes_field, no_check, repeated}
 use Rattle.file_parts.specs.Feeding.{IsTold, name_of, place, shelf_of}
 use Rattle.file_parts.proofs.Repeats.{with_front}
-use Rattle.index_files.proofs.reading.ivf.rows.read_pieces.Given as goal
+use Rattle.index_files.proofs.reading.ivf.rows.read_codes.Given as goal
 
 abbrev pub invariant-loop-done : goal.invariant-loop-done
 invariant-loop-done g l = record {
   within : l.done ≤ l.count;
-  dim : All (λ c. c.dim ≡ l.dim.bits) l.pieces.items;
-  count : length (flat_map (λ c. c.codes) l.pieces.items) ≡ l.done;
-  codes : All (IsCode l.dim.bits) (flat_map (λ c. c.codes) l.pieces.items);
+  whole : length l.codes.items ≡ l.done * l.size;
   so_far : IsTold (g.H.Shelf.contents (shelf_of l.fn.feed))
-      → with_front (flat_map (λ c. c.codes) l.pieces.items)
-      (run (repeated (l.count - l.done) (bytes_field (l.dim.bits / 8) no_check)) (place g.H.Shelf.contents l.feed))
-      ≡ run (repeated l.count (bytes_field (l.dim.bits / 8) no_check)) (place g.H.Shelf.contents l.fn.feed);
+      → with_front (chunks_of l.size l.done l.codes.items)
+      (run (repeated (l.count - l.done) (bytes_field l.size no_check)) (place g.H.Shelf.contents l.feed))
+      ≡ run (repeated l.count (bytes_field l.size no_check)) (place g.H.Shelf.contents l.fn.feed);
   same_shelf : name_of l.feed ≡ name_of l.fn.feed;
   files : KeepsFiles (g.H.Shelf.contents (shelf_of l.fn.feed)) (g.H.Shelf.contents (shelf_of l.feed));
   reading : g.H.Shelf.is_reading (shelf_of l.feed) ≡ g.H.Shelf.is_reading (shelf_of l.fn.feed);
